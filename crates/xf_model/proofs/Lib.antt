@@ -1,0 +1,6 @@
+pub mod AscendingKeys
+pub mod GroupValues
+pub mod MovedKeys
+pub mod Plain
+pub mod ReplayedLines
+pub mod SelectedRows

@@ -1,0 +1,5 @@
+pub mod Dimension
+pub mod Group
+pub mod Moved
+pub mod Replay
+pub mod Plain
