@@ -1,0 +1,4 @@
+pub mod EqualKeys
+pub mod NumberWords
+pub mod ReadNumbers
+pub mod WriteNumbers

@@ -1,0 +1,13 @@
+-- What a row's cells hold.
+use Rattle.std.specs.Prelude.{ℕ, List, length, sum_by}
+use Rattle.xf_base.specs.declared.cells.Cell.{Cell}
+use Rattle.xf_base.specs.declared.cells.Cell.TheVariants.{Num, Text, Tags}
+
+-- how many bytes of text a cell holds
+abbrev pub cell_bytes : Cell → ℕ
+cell_bytes (Num number) = 0
+cell_bytes (Text text) = length text
+cell_bytes (Tags tags) = sum_by length tags
+
+abbrev pub text_bytes : List Cell → ℕ
+text_bytes row = sum_by cell_bytes row
