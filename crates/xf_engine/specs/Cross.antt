@@ -1,0 +1,89 @@
+-- What a crossfilter over columns of numbers means: one dimension and one counting group for each column.
+use Rattle.std.specs.Prelude.{◌≡◌, ℕ, ℤ, ◌+◌, ◌≤◌, List, [], ◌∷◌, length, map, pos, Option, Some, None, slice_get, slice_index_or}
+use Rattle.std.specs.List.{AllByRecursion}
+use Rattle.xf_base.specs.Bounds.{Bounds}
+use Rattle.xf_base.specs.Columns.{IsRowOf}
+use Rattle.xf_base.specs.Key.{key_cmp}
+use Rattle.xf_base.specs.declared.cells.Cell.{Cell}
+use Rattle.xf_base.specs.declared.cells.Cell.TheVariants as cell
+use Rattle.xf_base.specs.declared.columns.Column.{Column}
+use Rattle.xf_base.specs.declared.columns.ColumnKind.TheVariants as kind
+use Rattle.xf_base.specs.declared.keys.Key.{Key}
+use Rattle.xf_base.specs.declared.keys.Key.TheVariants as key
+use Rattle.xf_engine.specs.declared.ranges.KeyNumber.{KeyNumber}
+use Rattle.xf_engine.specs.declared.ranges.Range.{Range}
+use Rattle.xf_model.specs.Dimension.{Dimension, Filter, all, range, selected}
+use Rattle.xf_model.specs.Group.{count, group_entries}
+use Rattle.xf_model.specs.Moved.{moved}
+
+-- the columns, how much may be held, the rows in order, and the range that is set on each column's dimension
+pub record Contents : Type 0 where
+  pub columns : List Column
+  pub limits : Bounds
+  pub rows : List (List Cell)
+  pub ranges : List (Option Range)
+
+-- a column of whole numbers
+abbrev pub IsInt : Column → Type 0
+IsInt column = column.kind ≡ kind.Int
+
+-- the number of a cell, where it has one
+abbrev pub number_of_cell : Option Cell → Option ℤ
+number_of_cell None = None
+number_of_cell (Some (cell.Num number)) = Some number
+number_of_cell (Some (cell.Text text)) = None
+number_of_cell (Some (cell.Tags tags)) = None
+
+-- a number is one key
+abbrev pub number_keys : Option ℤ → List Key
+number_keys None = []
+number_keys (Some number) = key.Num number ∷ []
+
+-- the keys of a cell: its number
+abbrev pub keys_of_cell : Option Cell → List Key
+keys_of_cell value = number_keys (number_of_cell value)
+
+-- the keys of a row in a column's dimension
+abbrev pub column_keys : ℕ → List Cell → List Key
+column_keys column row = keys_of_cell (slice_get row column)
+
+-- the filter that a range sets: its low end and what is above it, below its high end
+abbrev pub filter_of : Option Range → Filter Key
+filter_of None = all
+filter_of (Some chosen) = range key_cmp (key.Num chosen.low) (key.Num chosen.high)
+
+-- a column's dimension, with the range that is set on it
+abbrev pub dimension_of : ℕ → Option Range → Dimension (List Cell) Key
+dimension_of column chosen = record { keys = column_keys column; chosen = filter_of chosen }
+
+-- the dimensions of the columns from a place on, with the range that is set on each
+abbrev pub dimensions_from : ℕ → List (Option Range) → List (Dimension (List Cell) Key)
+dimensions_from column [] = []
+dimensions_from column (chosen ∷ rest) = dimension_of column chosen ∷ dimensions_from (column + 1) rest
+
+-- the dimension of each column
+abbrev pub dimensions : Contents → List (Dimension (List Cell) Key)
+dimensions cross = dimensions_from 0 cross.ranges
+
+-- how many rows pass every dimension
+abbrev pub passing : Contents → ℕ
+passing cross = length (selected (dimensions cross) None cross.rows)
+
+-- the group of a column's dimension: each of its keys, with how many rows have it and pass every other dimension
+abbrev pub entries : Contents → ℕ → List (Key × ℕ)
+entries cross column = group_entries key_cmp (column_keys column) count (dimensions cross) column cross.rows
+
+-- counts as a group gives them
+abbrev pub key_numbers : List (Key × ℕ) → List KeyNumber
+key_numbers counts = map (λ entry. record { key = entry.0; number = pos entry.1 }) counts
+
+-- how many rows a new range moves in a column's dimension
+abbrev pub moved_by : Contents → ℕ → Range → ℕ
+moved_by cross column new =
+    moved (column_keys column) (filter_of (slice_index_or cross.ranges column None)) (filter_of (Some new)) cross.rows
+
+-- what is true of every crossfilter: there are at most 32 columns, all of them of numbers, and the rows are theirs
+pub record IsCross (columns : List Column) (rows : List (List Cell)) : Type 0 where
+  pub few : length columns ≤ 32
+  pub all_int : AllByRecursion IsInt columns
+  pub of_schema : AllByRecursion (IsRowOf columns) rows
