@@ -1,0 +1,44 @@
+-- The data view of a state: its counts, the whole `all`, and the group of each column.
+use Rattle.std.specs.Prelude.{ℕ, ◌+◌, List, [], ◌∷◌, ◌++◌, codes, decimal, flat_map, length}
+use Rattle.xf_base.specs.Fixed.{fixed_text}
+use Rattle.xf_base.specs.Words.{word_text}
+use Rattle.xf_base.specs.declared.columns.Column.{Column}
+use Rattle.xf_base.specs.declared.keys.Atom.{Atom}
+use Rattle.xf_base.specs.declared.keys.Atom.TheVariants as atom
+use Rattle.xf_base.specs.declared.keys.Key.{Key}
+use Rattle.xf_base.specs.declared.keys.Key.TheVariants as key
+use Rattle.xf_engine.specs.Cross.{Contents, entries, key_numbers, passing}
+use Rattle.xf_engine.specs.declared.ranges.KeyNumber.{KeyNumber}
+
+-- a key of whole numbers as text: a number in decimal, a text as it is, a pair with a bar between its parts
+abbrev pub atom_text : Atom → List ℕ
+atom_text (atom.Num number) = fixed_text number 0
+atom_text (atom.Text text) = text
+
+abbrev pub key_text : Key → List ℕ
+key_text (key.Num number) = fixed_text number 0
+key_text (key.Text text) = text
+key_text (key.Pair first second) = atom_text first ++ 124 ∷ atom_text second
+
+-- two blanks, the key as a word, a blank, its number
+abbrev pub entry_line : KeyNumber → List ℕ
+entry_line entry = codes "  " ++ word_text (key_text entry.key) ++ 32 ∷ fixed_text entry.number 0 ++ 10 ∷ []
+
+-- the group of a column, under its name and the number of its keys
+abbrev pub group_lines : List ℕ → List KeyNumber → List ℕ
+group_lines name counts =
+    codes "group " ++ word_text name ++ 32 ∷ decimal (length counts) ++ 10 ∷ flat_map entry_line counts
+
+-- the groups of the columns from a place on
+abbrev pub groups_from : Contents → ℕ → List Column → List ℕ
+groups_from state place [] = []
+groups_from state place (column ∷ columns) =
+    group_lines column.name (key_numbers (entries state place)) ++ groups_from state (place + 1) columns
+
+-- the counts of a state, and its groups
+abbrev pub counts_lines : Contents → List ℕ
+counts_lines state =
+    codes "records " ++ decimal (length state.rows) ++ codes " passing " ++ decimal (passing state) ++ codes "\nwhole all " ++ decimal (passing state) ++ 10 ∷ []
+
+abbrev pub data_view : Contents → List ℕ
+data_view state = counts_lines state ++ groups_from state 0 state.columns

@@ -1,0 +1,72 @@
+-- What a line of a session says.
+use Rattle.std.specs.Prelude.{ℕ, ◌==◌, nat_lt, nat_le, Bool, false, ◌&&◌, ◌||◌, not, if◌then◌else◌, codes, List, [], ◌∷◌, length, filter, Option, Some, None, Result, Ok, Err, ℤ}
+use Rattle.std.specs.List.{list_all, slice_split}
+use Rattle.std.specs.Str.{IsAscii, bytes_eq}
+use Rattle.std.specs.Str.Lines.{lines}
+use Rattle.xf_app.specs.declared.script.Command.{Command}
+use Rattle.xf_app.specs.declared.script.Command.TheVariants.{Skip, Unknown, Filter}
+use Rattle.xf_base.specs.Fixed.{number_of}
+use Rattle.xf_base.specs.declared.numbers.NumberRefusal.{NumberRefusal}
+use Rattle.xf_engine.specs.declared.ranges.Range.{Range}
+
+-- a session's bytes without one byte order mark in front
+abbrev pub without_mark : List ℕ → List ℕ
+without_mark [] = []
+without_mark (a ∷ []) = a ∷ []
+without_mark (a ∷ b ∷ []) = a ∷ b ∷ []
+without_mark (a ∷ b ∷ c ∷ rest) = if (a == 239) && (b == 187) && (c == 191) then rest else a ∷ b ∷ c ∷ rest
+
+-- the lines of a session: its bytes are cut at each line feed, a carriage return before one is dropped, and bytes
+-- behind the last are a line
+abbrev pub lines_of : List ℕ → List (List ℕ)
+lines_of session = lines (without_mark session)
+
+-- a blank or a tab
+abbrev pub is_space : ℕ → Bool
+is_space byte = (byte == 32) || (byte == 9)
+
+-- the words of a line stand between blanks and tabs
+abbrev pub words_of : List ℕ → List (List ℕ)
+words_of line = filter (λ word. not (length word == 0)) (slice_split is_space line)
+
+-- at most 65,536 bytes, all of them ASCII, and no double quote among them
+abbrev pub is_plain : List ℕ → Bool
+is_plain line = nat_le (length line) 65536 && list_all (λ byte. nat_lt byte 128 && not (byte == 34)) line
+
+-- the range of two words, where both are whole numbers
+abbrev pub range_of : Result ℤ NumberRefusal → Result ℤ NumberRefusal → Option Range
+range_of (Ok low) (Ok high) = Some (record { low = low; high = high })
+range_of (Ok low) (Err refusal) = None
+range_of (Err refusal) (Ok high) = None
+range_of (Err refusal) (Err other) = None
+
+-- five words are a filter where the first and the third are `filter` and `range`
+abbrev pub filter_of_words : List ℕ → List ℕ → List ℕ → List ℕ → List ℕ → Command
+filter_of_words verb dimension sort low high =
+    if bytes_eq verb (codes "filter") && bytes_eq sort (codes "range") then Filter dimension (range_of (number_of low 0) (number_of high 0)) else Unknown
+
+abbrev pub command_of_words : List (List ℕ) → Command
+command_of_words [] = Skip
+command_of_words (verb ∷ []) = Unknown
+command_of_words (verb ∷ dimension ∷ []) = Unknown
+command_of_words (verb ∷ dimension ∷ sort ∷ []) = Unknown
+command_of_words (verb ∷ dimension ∷ sort ∷ low ∷ []) = Unknown
+command_of_words (verb ∷ dimension ∷ sort ∷ low ∷ high ∷ []) = filter_of_words verb dimension sort low high
+command_of_words (verb ∷ dimension ∷ sort ∷ low ∷ high ∷ more ∷ rest) = Unknown
+
+-- whether the first word begins with `#`
+abbrev pub is_comment : List (List ℕ) → Bool
+is_comment [] = false
+is_comment ([] ∷ words) = false
+is_comment ((byte ∷ word) ∷ words) = byte == 35
+
+-- a line that is not plain is no command that is known; then a line without words and a comment are no step
+abbrev pub command_of : List ℕ → Command
+command_of line =
+    if not (is_plain line) then Unknown
+    else if is_comment (words_of line) then Skip
+    else command_of_words (words_of line)
+
+-- a word of ASCII bytes
+abbrev pub IsAsciiWord : List ℕ → Type 0
+IsAsciiWord word = IsAscii word

@@ -1,0 +1,129 @@
+//! The data view of a crossfilter: its counts, the whole `all`, and the group of each column.
+ghost use Rattle.std.specs.Prelude.{◌≡◌, ◌++◌, OnOk, decimal};
+ghost use Rattle.xf_app.specs.Page.{atom_text, counts_lines, data_view, entry_line, group_lines, key_text};
+ghost use Rattle.xf_base.specs.Fixed.{fixed_text};
+ghost use Rattle.xf_base.specs.Words.{word_text};
+
+use itoa::Buffer;
+use std::alloc::Global;
+use std::sync::ledger::Ledger;
+use xf_base::{Atom, Key, OutOfMemory, Steps, put_fixed, put_word};
+use xf_engine::{Cross, KeyNumber};
+
+/// Appends a number in decimal.
+pub fn put_number(out: &mut Vec<u8>, number: u64) -> Result<(), OutOfMemory>
+    ensures ok { OnOk result (out.new.items ≡ out.old.items ++ decimal number) }
+{
+    let mut digits = Buffer::new();
+    out.extend_from_slice(digits.format(number).as_bytes())?;
+    Ok(())
+}
+
+/// Appends the data view: `records SIZE passing COUNT`, `whole all COUNT`, and for each column `group NAME KEYS` with
+/// a line `  KEY COUNT` for each of its keys.
+pub fn put_data_view<L: Ledger>(
+    alloc: Global,
+    out: &mut Vec<u8>,
+    cross: &Cross,
+    steps: &mut Steps<L>,
+) -> Result<(), OutOfMemory>
+    ensures ok { OnOk result (out.new.items ≡ out.old.items ++ data_view cross.now) }
+{
+    put_counts(out, cross, steps)?;
+    for (place, column) in cross.schema().as_slice().iter().enumerate() {
+        let counts = cross.group_all(alloc, place, steps)?;
+        put_group(
+            alloc,
+            out,
+            column.name.as_str().as_bytes(),
+            counts.as_slice(),
+        )?;
+    }
+    Ok(())
+}
+
+/// Appends how many records there are and how many pass, and the whole `all`, which counts those.
+fn put_counts<L: Ledger>(
+    out: &mut Vec<u8>,
+    cross: &Cross,
+    steps: &mut Steps<L>,
+) -> Result<(), OutOfMemory>
+    ensures ok { OnOk result (out.new.items ≡ out.old.items ++ counts_lines cross.now) }
+{
+    let passing = cross.passing_count(steps);
+    out.extend_from_slice(b"records ")?;
+    put_number(out, cross.size())?;
+    out.extend_from_slice(b" passing ")?;
+    put_number(out, passing)?;
+    out.extend_from_slice(b"\nwhole all ")?;
+    put_number(out, passing)?;
+    out.push(b'\n')?;
+    Ok(())
+}
+
+/// Appends a group: its name, the number of its keys, and a line for each.
+fn put_group(
+    alloc: Global,
+    out: &mut Vec<u8>,
+    name: &[u8],
+    counts: &[KeyNumber],
+) -> Result<(), OutOfMemory>
+    ensures ok { OnOk result (out.new.items ≡ out.old.items ++ group_lines name.now counts.now) }
+{
+    out.extend_from_slice(b"group ")?;
+    put_word(out, name)?;
+    out.push(b' ')?;
+    put_number(out, counts.len() as u64)?;
+    out.push(b'\n')?;
+    for count in counts {
+        put_entry(alloc, out, count)?;
+    }
+    Ok(())
+}
+
+/// Appends the line of a key and its number.
+fn put_entry(alloc: Global, out: &mut Vec<u8>, entry: &KeyNumber) -> Result<(), OutOfMemory>
+    ensures ok { OnOk result (out.new.items ≡ out.old.items ++ entry_line entry.now) }
+{
+    out.extend_from_slice(b"  ")?;
+    put_key(alloc, out, &entry.key)?;
+    out.push(b' ')?;
+    put_fixed(out, entry.number, 0)?;
+    out.push(b'\n')?;
+    Ok(())
+}
+
+/// Appends a key as a word. A number needs no quotes.
+fn put_key(alloc: Global, out: &mut Vec<u8>, key: &Key) -> Result<(), OutOfMemory>
+    ensures ok { OnOk result (out.new.items ≡ out.old.items ++ word_text (key_text key.now)) }
+{
+    match key {
+        Key::Num(number) => put_whole(out, *number),
+        Key::Text(text) => put_word(out, text.as_str().as_bytes()),
+        Key::Pair(first, second) => {
+            let mut text = Vec::new(alloc);
+            put_atom(&mut text, first)?;
+            text.push(b'|')?;
+            put_atom(&mut text, second)?;
+            put_word(out, text.as_slice())
+        }
+    }
+}
+
+/// Appends a part of a key as text.
+fn put_atom(out: &mut Vec<u8>, atom: &Atom) -> Result<(), OutOfMemory>
+    ensures ok { OnOk result (out.new.items ≡ out.old.items ++ atom_text atom.now) }
+{
+    match atom {
+        Atom::Num(number) => put_whole(out, *number),
+        Atom::Text(text) => Ok(out.extend_from_slice(text.as_str().as_bytes())?),
+    }
+}
+
+/// Appends a whole number, which is a word by itself.
+fn put_whole(out: &mut Vec<u8>, number: i64) -> Result<(), OutOfMemory>
+    ensures ok { OnOk result (out.new.items ≡ out.old.items ++ fixed_text number 0) }
+    ensures word { OnOk result (out.new.items ≡ out.old.items ++ word_text (fixed_text number 0)) }
+{
+    put_fixed(out, i128::from(number), 0)
+}

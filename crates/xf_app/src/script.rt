@@ -1,0 +1,133 @@
+//! The lines of a session: where each ends, and what it says.
+ghost use Rattle.std.specs.Prelude.{◌≡◌, ◌<◌, ◌∷◌, IfOk, length, map};
+ghost use Rattle.std.specs.List.{AllByRecursion};
+ghost use Rattle.std.specs.Str.Lines.{lines, strip_carriage_return};
+ghost use Rattle.xf_app.specs.Script.{IsAsciiWord, command_of, command_of_words, is_plain, range_of, without_mark, words_of};
+ghost use Rattle.xf_base.specs.Fixed.{number_of};
+
+use std::alloc::Global;
+use xf_base::{OutOfMemory, Text, read_fixed};
+use xf_engine::Range;
+
+/// What a line says.
+#[derive(Debug, Drop)]
+pub enum Command {
+    /// No step: a blank line or a comment.
+    Skip,
+    /// Nothing that is known.
+    Unknown,
+    /// `filter DIMENSION range LOW HIGH`; the range is None where LOW or HIGH is no whole number.
+    Filter {
+        dimension: Text,
+        range: Option<Range>,
+    },
+}
+
+/// The most bytes of a line.
+const LINE_BYTES: usize = 65_536;
+
+/// A session's bytes behind one byte order mark, if it has one.
+pub fn text_of(session: &[u8]) -> &[u8]
+    ensures { result.now ≡ without_mark session.now }
+{
+    match session {
+        [0xef, 0xbb, 0xbf, text @ ..] => text,
+        _ => session,
+    }
+}
+
+/// The first line of a text that is not empty, and the text behind its line feed.
+pub fn first_line(text: &[u8]) -> (&[u8], &[u8])
+    requires { 0 < length text.now }
+    ensures first { lines text.now ≡ result.0.now ∷ lines result.1.now }
+    ensures shorter { length result.1.now < length text.now }
+{
+    match text.iter().position(|byte| *byte == b'\n') {
+        None => (text, &[]),
+        Some(end) => (without_return(&text[..end]), &text[end + 1..]),
+    }
+}
+
+/// A line without a carriage return at its end.
+fn without_return(line: &[u8]) -> &[u8]
+    ensures { result.now ≡ strip_carriage_return line.now }
+{
+    match line {
+        [line @ .., b'\r'] => line,
+        _ => line,
+    }
+}
+
+/// Whether a line is short enough, ASCII and without quotes.
+fn is_plain(line: &[u8]) -> bool
+    ensures { result ≡ is_plain line.now }
+{
+    line.len() <= LINE_BYTES && line.iter().all(|byte| *byte < 128 && *byte != b'"')
+}
+
+/// What a line says.
+pub fn read_command(alloc: Global, line: &[u8]) -> Result<Command, OutOfMemory>
+    ensures { IfOk result (λ command. command ≡ command_of line.now) }
+{
+    if !is_plain(line) {
+        return Ok(Command::Unknown);
+    }
+    let words = words_of(alloc, line)?;
+    match words.as_slice() {
+        [[b'#', ..], ..] => Ok(Command::Skip),
+        words => command_of_words(alloc, words),
+    }
+}
+
+/// The words of a line, which stand between blanks and tabs.
+fn words_of(alloc: Global, line: &[u8]) -> Result<Vec<&[u8]>, OutOfMemory>
+    ensures { IfOk result (λ words. map (λ word. word.now) words.items ≡ words_of line.now) }
+{
+    Ok(
+        line.split(|byte| *byte == b' ' || *byte == b'\t')
+            .filter(|word| !word.is_empty())
+            .collect(alloc)?,
+    )
+}
+
+/// What words of ASCII say, where the first is no comment's.
+fn command_of_words(alloc: Global, words: &[&[u8]]) -> Result<Command, OutOfMemory>
+    requires { AllByRecursion IsAsciiWord (map (λ word. word.now) words.now) }
+    ensures { IfOk result (λ command. command ≡ command_of_words (map (λ word. word.now) words.now)) }
+{
+    match words {
+        [] => Ok(Command::Skip),
+        [verb, dimension, sort, low, high]
+            if *verb == b"filter".as_slice() && *sort == b"range".as_slice() => {
+            Ok(Command::Filter {
+                dimension: text_of_word(alloc, dimension)?,
+                range: range_of(low, high),
+            })
+        }
+        _ => Ok(Command::Unknown),
+    }
+}
+
+/// A word of ASCII as a text.
+fn text_of_word(alloc: Global, word: &[u8]) -> Result<Text, OutOfMemory>
+    requires { IsAsciiWord word.now }
+    ensures { IfOk result (λ text. text ≡ word.now) }
+{
+    match str::from_utf8(word) {
+        Ok(word) => Text::of(alloc, word),
+        Err(_) => unreachable!(),
+    }
+}
+
+/// The range from one word on and below another, where both are whole numbers.
+fn range_of(low: &[u8], high: &[u8]) -> Option<Range>
+    ensures { result ≡ range_of (number_of low.now 0) (number_of high.now 0) }
+{
+    match (read_fixed(low, 0), read_fixed(high, 0)) {
+        (Ok(low), Ok(high)) => Some(Range { low, high }),
+        _ => None,
+    }
+}
+
+#[cfg(test)]
+mod tests;

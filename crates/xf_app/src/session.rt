@@ -1,0 +1,119 @@
+//! A line of a session, done on a crossfilter, and its answer.
+ghost use Rattle.std.specs.Prelude.{◌≡◌, [], ◌∷◌, ◌++◌, IfOk, OnErr, OnOk, codes, decimal, position};
+ghost use Rattle.std.specs.Str.{bytes_eq};
+ghost use Rattle.xf_app.specs.Session.{IsUnmoved, cause, command, filtered, outcome_of, said};
+
+use crate::board::place_of;
+use crate::page::put_number;
+use crate::script::{Command, read_command};
+use std::alloc::Global;
+use std::sync::ledger::Ledger;
+use xf_base::{OutOfMemory, Steps, Text, put_word};
+use xf_engine::{Cross, Range};
+
+/// Why a line is refused. A refused line changes nothing.
+#[derive(Debug, Drop)]
+pub enum Refusal {
+    /// Number 3: the line is nothing that is known.
+    UnknownVerb,
+    /// Number 6: no dimension has this name.
+    NoDimension { name: Text },
+    /// Number 9: an end of the range is no whole number, and every dimension is of numbers.
+    WrongKind,
+}
+
+/// How a line is answered.
+#[derive(Debug, Drop)]
+pub enum Reply {
+    /// The line is no step.
+    Skipped,
+    Refused(Refusal),
+    /// A filter was set, and so many records moved.
+    Moved(u64),
+}
+
+/// Does what a line says.
+pub fn apply<L: Ledger>(
+    alloc: Global,
+    cross: &mut Cross,
+    line: &[u8],
+    steps: &mut Steps<L>,
+) -> Result<Reply, OutOfMemory>
+    ensures done { IfOk result (λ reply. outcome_of reply cross.new ≡ command cross.old line.now) }
+    ensures unmoved { IfOk result (λ reply. IsUnmoved reply → cross.new ≡ cross.old) }
+    ensures err { OnErr result (cross.new ≡ cross.old) }
+{
+    Ok(match read_command(alloc, line)? {
+        Command::Skip => Reply::Skipped,
+        Command::Unknown => Reply::Refused(Refusal::UnknownVerb),
+        Command::Filter { dimension, range } => filter(cross, dimension, range, steps),
+    })
+}
+
+/// Sets a range on the dimension of a name.
+fn filter<L: Ledger>(
+    cross: &mut Cross,
+    name: Text,
+    range: Option<Range>,
+    steps: &mut Steps<L>,
+) -> Reply
+    ensures done { outcome_of result cross.new ≡ filtered cross.old name range (position (λ column. bytes_eq column.name name) cross.old.columns) }
+    ensures unmoved { IsUnmoved result → cross.new ≡ cross.old }
+{
+    match (
+        place_of(cross.schema().as_slice(), name.as_str().as_bytes()),
+        range,
+    ) {
+        (None, _) => Reply::Refused(Refusal::NoDimension { name }),
+        (Some(_), None) => Reply::Refused(Refusal::WrongKind),
+        (Some(place), Some(range)) => {
+            Reply::Moved(cross.set_filter(place, range.low, range.high, steps))
+        }
+    }
+}
+
+/// Appends the number and the words of a refusal.
+fn put_cause(out: &mut Vec<u8>, refusal: &Refusal) -> Result<(), OutOfMemory>
+    ensures ok { OnOk result (out.new.items ≡ out.old.items ++ cause refusal.now) }
+{
+    match refusal {
+        Refusal::UnknownVerb => out.extend_from_slice(b"3 unknown verb")?,
+        Refusal::NoDimension { name } => {
+            out.extend_from_slice(b"6 no dimension ")?;
+            put_word(out, name.as_str().as_bytes())?;
+        }
+        Refusal::WrongKind => out.extend_from_slice(b"9 wrong kind number text")?,
+    }
+    Ok(())
+}
+
+/// Appends the line of the step of this number; nothing for a line that is no step.
+pub fn put_step(out: &mut Vec<u8>, number: u64, reply: &Reply) -> Result<(), OutOfMemory>
+    ensures ok { OnOk result (out.new.items ≡ out.old.items ++ said number reply.now) }
+{
+    match reply {
+        Reply::Skipped => return Ok(()),
+        Reply::Refused(refusal) => {
+            put_beginning(out, number)?;
+            out.extend_from_slice(b"refused ")?;
+            put_cause(out, refusal)?;
+        }
+        Reply::Moved(count) => {
+            put_beginning(out, number)?;
+            out.extend_from_slice(b"ok moved ")?;
+            put_number(out, *count)?;
+        }
+    }
+    out.push(b'\n')?;
+    Ok(())
+}
+
+/// Appends `step`, its number and a blank.
+fn put_beginning(out: &mut Vec<u8>, number: u64) -> Result<(), OutOfMemory>
+    ensures ok { OnOk result (out.new.items ≡ out.old.items ++ (codes "step " ++ decimal number ++ 32 ∷ [])) }
+{
+    out.extend_from_slice(b"step ")?;
+    put_number(out, number)?;
+    out.push(b' ')?;
+    Ok(())
+}
