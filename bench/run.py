@@ -1,0 +1,89 @@
+#!/usr/bin/env python3
+"""Times the program on made CSV files. Usage: bench/run.py PROGRAM [RECORDS ..]
+
+For each number of records (10,000, 100,000 and 1,000,000 where none is given) it writes a file of four columns and
+sessions of 0, 1 and 20 range filters into a temporary folder, runs PROGRAM on each three times, and prints a table:
+the shortest wall time, the greatest peak memory, and the bytes written. It needs Python 3.8 on Linux and nothing else.
+"""
+
+import os
+import sys
+import tempfile
+import time
+
+# Each column's name, and the number of values that it is drawn from; of the last nearly all are distinct.
+COLUMNS = [("ten", 10), ("thousand", 1000), ("many", 100_000), ("unique", 10**12)]
+RECORDS = [10_000, 100_000, 1_000_000]
+FILTERS = [0, 1, 20]
+RUNS = 3
+
+
+class Draws:
+    """A linear congruential generator of 64 bits. A draw of n is a number from 0 to n - 1."""
+
+    def __init__(self, seed):
+        self.state = seed
+
+    def draw(self, n):
+        self.state = (6364136223846793005 * self.state + 1442695040888963407) % 2**64
+        return (self.state >> 16) % n
+
+
+def write_board(path, records):
+    draws = Draws(records)
+    with open(path, "w", encoding="ascii") as board:
+        board.write(",".join(name for name, _ in COLUMNS) + "\n")
+        for _ in range(records):
+            board.write(",".join(str(draws.draw(values)) for _, values in COLUMNS) + "\n")
+
+
+def write_session(path, filters):
+    """The columns take turns; each range holds half of its column's values, from a drawn low end on."""
+    draws = Draws(filters)
+    with open(path, "w", encoding="ascii") as session:
+        for number in range(filters):
+            name, values = COLUMNS[number % len(COLUMNS)]
+            low = draws.draw(values // 2)
+            session.write(f"filter {name} range {low} {low + values // 2}\n")
+
+
+def measure(program, words, output):
+    """The seconds and the KiB of one run."""
+    with open(output, "wb") as out:
+        start = time.perf_counter()
+        actions = [(os.POSIX_SPAWN_DUP2, out.fileno(), 1)]
+        process = os.posix_spawn(program, [program, *words], os.environ, file_actions=actions)
+        _, status, usage = os.wait4(process, 0)
+        seconds = time.perf_counter() - start
+    if status != 0:
+        sys.exit(f"{program} {' '.join(words)} ended with the wait status {status}")
+    return seconds, usage.ru_maxrss
+
+
+def measure_row(program, folder, records, filters):
+    session = os.path.join(folder, "session.txt")
+    output = os.path.join(folder, "output.txt")
+    write_session(session, filters)
+    runs = [measure(program, [os.path.join(folder, "board.csv"), session], output) for _ in range(RUNS)]
+    seconds = min(run[0] for run in runs)
+    peak = max(run[1] for run in runs)
+    written = os.path.getsize(output)
+    return f"| {records:,} | {filters} | {seconds:.3f} | {peak / 1024:.1f} | {written:,} |"
+
+
+def main():
+    if len(sys.argv) < 2:
+        sys.exit(__doc__)
+    program = os.path.abspath(sys.argv[1])
+    sizes = [int(word) for word in sys.argv[2:]] or RECORDS
+    print("| records | filters | wall time (s) | peak memory (MiB) | bytes written |")
+    print("|---:|---:|---:|---:|---:|")
+    for records in sizes:
+        with tempfile.TemporaryDirectory() as folder:
+            write_board(os.path.join(folder, "board.csv"), records)
+            for filters in FILTERS:
+                print(measure_row(program, folder, records, filters), flush=True)
+
+
+if __name__ == "__main__":
+    main()

@@ -1,0 +1,79 @@
+//! The program `xf BOARD.csv SESSION`: replays a session of filters on a board, and writes what each step gives.
+//!
+//! It stands on the library `xf_app`, and only makes what that runs on: a depot over the system's files, a sink over
+//! the standard output and a counter of steps. Its one promise: it passes on the user's words, and ends with the number
+//! of the status that the run gives.
+#![tactic(auto)]
+
+ghost use Rattle.std.specs.Prelude.{◌≡◌, ◌<◌};
+ghost use Rattle.xf.specs.Exit.{exit_code};
+
+#[cfg(test)]
+mod tests;
+
+use std::alloc::Global;
+use std::env;
+use std::io::ErrorKind;
+use std::marker::Brand;
+use std::process::ExitCode;
+use std::sync::ledger::{Blank, Ledger};
+use xf_app::Status;
+use xf_base::{OutOfMemory, Steps};
+use xf_outside::{Depot, FileDepot, Sink, StdSink};
+
+fn main(rt: HostRuntime) -> ExitCode {
+    let mut depot = FileDepot::new(&rt);
+    let mut sink = StdSink::new(&rt);
+    let status = match words_of(&rt) {
+        Ok(words) => run(rt.alloc(), words.as_slice(), &mut depot, &mut sink),
+        Err(OutOfMemory) => Status::Memory,
+    };
+    ExitCode::from(code_of(status))
+}
+
+/// The words behind the program's own name. Where one is not UTF-8 there are none, and so the usage line is written.
+fn words_of(rt: &HostRuntime) -> Result<Vec<String>, OutOfMemory> {
+    match env::args(rt) {
+        Ok(words) => Ok(words.skip(1).collect(rt.alloc())?),
+        Err(error) if error.kind() == ErrorKind::OutOfMemory => Err(OutOfMemory),
+        Err(_) => Ok(Vec::new(rt.alloc())),
+    }
+}
+
+/// A run whose steps are counted from 0 on.
+fn run<D: Depot, S: Sink>(alloc: Global, words: &[String], depot: &mut D, sink: &mut S) -> Status {
+    run_counted::<D, S, Brand>(alloc, words, depot, sink, Blank::new(1))
+}
+
+/// The same, in the ledger that the blank becomes.
+fn run_counted<D: Depot, S: Sink, L: Ledger>(
+    alloc: Global,
+    words: &[String],
+    depot: &mut D,
+    sink: &mut S,
+    blank: Blank,
+) -> Status
+    requires name { blank.name ≡ L.name }
+    requires parts { blank.parts ≡ L.parts }
+    requires some { 0 < blank.parts }
+{
+    let mut steps = Steps::<L>::new(blank);
+    xf_app::run(alloc, words, depot, sink, &mut steps)
+}
+
+/// The exit status that tells how a run ended.
+fn code_of(status: Status) -> u8
+    ensures { result ≡ exit_code status }
+{
+    match status {
+        Status::Done => 0,
+        Status::DoneWithRefusals => 1,
+        Status::Usage => 2,
+        Status::BoardRefused => 3,
+        Status::ReadFault => 4,
+        Status::WriteFault => 5,
+        Status::Memory => 6,
+        Status::Absent => 7,
+        Status::TooLong => 8,
+    }
+}
