@@ -21,10 +21,10 @@ use Rattle.xf_app.specs.BoardSteps.{even_rows, rows_after, rows_or_uneven}
 use Rattle.xf_app.specs.declared.board.BoardFault.{BoardFault}
 use Rattle.xf_app.specs.declared.board.BoardFault.TheVariants.{UnevenRecord}
 use Rattle.xf_base.specs.Fixed.{number_of}
-use Rattle.xf_base.specs.declared.cells.Cell.{Cell}
-use Rattle.xf_base.specs.declared.cells.Cell.TheVariants as cell
-use Rattle.xf_base.specs.declared.columns.Column.{Column}
-use Rattle.xf_base.specs.declared.numbers.NumberRefusal.{NumberRefusal}
+use Rattle.xf_base.specs.declared.cell.Cell.{Cell}
+use Rattle.xf_base.specs.declared.cell.Cell.TheVariants as cell
+use Rattle.xf_base.specs.declared.column.Column.{Column}
+use Rattle.xf_base.specs.declared.fixed.NumberRefusal.{NumberRefusal}
 
 -- the field that a look-up gave
 pub field_at-some : (fields : List (List ℕ)) (i : ℕ) (field : List ℕ) → field_at fields i ≡ Some field → (i < length fields) × (get_or fields i [] ≡ field)

@@ -10,11 +10,11 @@ use Rattle.xf_app.specs.Board.{are_new, board_of, board_of_records, first_uneven
 use Rattle.xf_app.specs.Played.{IsBoard}
 use Rattle.xf_app.specs.Records.{records_of}
 use Rattle.xf_app.specs.declared.board.Board.{Board}
-use Rattle.xf_base.specs.declared.cells.Cell.{Cell}
-use Rattle.xf_base.specs.Columns.{IsCellNumber, IsRowOf}
-use Rattle.xf_base.specs.Fixed.{is_negative, number_of, read_digits, read_sign, scaled, signed, trimmed, without_sign}
-use Rattle.xf_base.specs.declared.numbers.NumberRefusal.{NumberRefusal}
-use Rattle.xf_base.specs.declared.numbers.NumberRefusal.TheVariants as refused
+use Rattle.xf_base.specs.declared.cell.Cell.{Cell}
+use Rattle.xf_base.specs.Schema.{IsCellNumber, IsRowOf}
+use Rattle.xf_base.specs.Fixed.{is_negative, number_of, read_digits, read_sign, units_of, with_sign, without_blanks, without_sign}
+use Rattle.xf_base.specs.declared.fixed.NumberRefusal.{NumberRefusal}
+use Rattle.xf_base.specs.declared.fixed.NumberRefusal.TheVariants as refused
 use Rattle.xf_engine.specs.Cross.{IsInt}
 
 -- a choice between two refusals and a value that gave the value
@@ -27,30 +27,30 @@ last_choice false false false e f g x y h = (refl, cc h)
 -- digits that read as a number give at most 10^15
 read_digits-within : (whole fraction : List ℕ) (decimals n : ℕ) → read_digits whole fraction decimals ≡ Ok n → n ≤ 10 ^ 15
 read_digits-within whole fraction decimals n h =
-    let last = last_choice ((length whole + length fraction == 0) || not (list_all is_ascii_digit whole) || not (list_all is_ascii_digit fraction)) (list_any (λ digit. not (digit == 48)) (drop decimals fraction)) (nat_lt (10 ^ 15) (scaled whole fraction decimals)) refused.NotNumber refused.TooManyDecimals refused.OutOfRange (scaled whole fraction decimals) n h in
-    let small : scaled whole fraction decimals ≤ 10 ^ 15 = search (tests, rules) in
+    let last = last_choice ((length whole + length fraction == 0) || not (list_all is_ascii_digit whole) || not (list_all is_ascii_digit fraction)) (list_any (λ digit. not (digit == 48)) (drop decimals fraction)) (nat_lt (10 ^ 15) (units_of whole fraction decimals)) refused.NotNumber refused.TooManyDecimals refused.OutOfRange (units_of whole fraction decimals) n h in
+    let small : units_of whole fraction decimals ≤ 10 ^ 15 = search (tests, rules) in
     subst (λ (m : ℕ). m ≤ 10 ^ 15) last.1 small
 
-signed-within : (negative : Bool) (read : Result ℕ NumberRefusal) (number : ℤ) → ((n : ℕ) → read ≡ Ok n → n ≤ 10 ^ 15) → signed negative read ≡ Ok number → IsCellNumber number
-signed-within true (Ok n) number within h =
+with_sign-within : (negative : Bool) (read : Result ℕ NumberRefusal) (number : ℤ) → ((n : ℕ) → read ≡ Ok n → n ≤ 10 ^ 15) → with_sign negative read ≡ Ok number → IsCellNumber number
+with_sign-within true (Ok n) number within h =
     let small = within n refl in
     let e : neg_ℤ (pos n) ≡ number = cc h in
     subst IsCellNumber e (omega (arith, ints, small), omega (arith, ints, small))
-signed-within false (Ok n) number within h =
+with_sign-within false (Ok n) number within h =
     let small = within n refl in
     let e : pos n ≡ number = cc h in
     subst IsCellNumber e (omega (arith, ints, small), omega (arith, ints, small))
-signed-within negative (Err refusal) number within h = cc h
+with_sign-within negative (Err refusal) number within h = cc h
 
 -- a text that reads as a number is one of a cell
 number_of-within : (text : List ℕ) (decimals : ℕ) (number : ℤ) → number_of text decimals ≡ Ok number → IsCellNumber number
-number_of-within text decimals number h = go (length (trimmed text) == 0) h
+number_of-within text decimals number h = go (length (without_blanks text) == 0) h
   where
-    go : (empty : Bool) → cond empty (Err refused.Empty) (read_sign (trimmed text) decimals) ≡ Ok number → IsCellNumber number
+    go : (empty : Bool) → cond empty (Err refused.Empty) (read_sign (without_blanks text) decimals) ≡ Ok number → IsCellNumber number
     go true e = cc e
     go false e =
-        let t = without_sign (trimmed text) in
-        signed-within (is_negative (trimmed text)) (read_digits (before_first (λ b. b == 46) t) (after_first (λ b. b == 46) t) decimals) number (λ n is. read_digits-within (before_first (λ b. b == 46) t) (after_first (λ b. b == 46) t) decimals n is) e
+        let t = without_sign (without_blanks text) in
+        with_sign-within (is_negative (without_blanks text)) (read_digits (before_first (λ b. b == 46) t) (after_first (λ b. b == 46) t) decimals) number (λ n is. read_digits-within (before_first (λ b. b == 46) t) (after_first (λ b. b == 46) t) decimals n is) e
 
 and-both : (a b : Bool) → a && b ≡ true → (a ≡ true) × (b ≡ true)
 and-both true b h = (refl, h)

@@ -8,10 +8,10 @@ use Rattle.xf_app.specs.declared.board.Board.{Board}
 use Rattle.xf_app.specs.declared.board.BoardFault.{BoardFault}
 use Rattle.xf_app.specs.declared.board.BoardFault.TheVariants.{NoHeader, UnevenRecord, NotBuilt}
 use Rattle.xf_base.specs.Fixed.{number_of}
-use Rattle.xf_base.specs.declared.cells.Cell.{Cell}
-use Rattle.xf_base.specs.declared.cells.Cell.TheVariants as cell
-use Rattle.xf_base.specs.declared.columns.Column.{Column}
-use Rattle.xf_base.specs.declared.columns.ColumnKind.TheVariants as kind
+use Rattle.xf_base.specs.declared.cell.Cell.{Cell}
+use Rattle.xf_base.specs.declared.cell.Cell.TheVariants as cell
+use Rattle.xf_base.specs.declared.column.Column.{Column}
+use Rattle.xf_base.specs.declared.column.ColumnKind.TheVariants as kind
 
 -- the number, counted from `first` on, of the first record with another number of fields than `width`
 abbrev pub first_uneven : ℕ → ℕ → List (List (List ℕ)) → Option ℕ

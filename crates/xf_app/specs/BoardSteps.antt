@@ -4,7 +4,7 @@ use Rattle.std.specs.List.{list_all}
 use Rattle.xf_app.specs.Board.{first_uneven, is_number, number_cell, rows_taken}
 use Rattle.xf_app.specs.declared.board.BoardFault.{BoardFault}
 use Rattle.xf_app.specs.declared.board.BoardFault.TheVariants.{UnevenRecord}
-use Rattle.xf_base.specs.declared.cells.Cell.{Cell}
+use Rattle.xf_base.specs.declared.cell.Cell.{Cell}
 
 -- the rows of one record more, as long as all are taken
 abbrev pub rows_after : Option (List (List Cell)) → List (List ℕ) → Option (List (List Cell))

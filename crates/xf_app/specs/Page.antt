@@ -1,14 +1,14 @@
 -- The data view of a state: its counts, the whole `all`, and the group of each column.
 use Rattle.std.specs.Prelude.{ℕ, ◌+◌, List, [], ◌∷◌, ◌++◌, codes, decimal, flat_map, length}
 use Rattle.xf_base.specs.Fixed.{fixed_text}
-use Rattle.xf_base.specs.Words.{word_text}
-use Rattle.xf_base.specs.declared.columns.Column.{Column}
-use Rattle.xf_base.specs.declared.keys.Atom.{Atom}
-use Rattle.xf_base.specs.declared.keys.Atom.TheVariants as atom
-use Rattle.xf_base.specs.declared.keys.Key.{Key}
-use Rattle.xf_base.specs.declared.keys.Key.TheVariants as key
+use Rattle.xf_base.specs.Word.{word_text}
+use Rattle.xf_base.specs.declared.column.Column.{Column}
+use Rattle.xf_base.specs.declared.key.Atom.{Atom}
+use Rattle.xf_base.specs.declared.key.Atom.TheVariants as atom
+use Rattle.xf_base.specs.declared.key.Key.{Key}
+use Rattle.xf_base.specs.declared.key.Key.TheVariants as key
 use Rattle.xf_engine.specs.Cross.{Contents, entries, key_numbers, passing}
-use Rattle.xf_engine.specs.declared.ranges.KeyNumber.{KeyNumber}
+use Rattle.xf_engine.specs.declared.key_number.KeyNumber.{KeyNumber}
 
 -- a key of whole numbers as text: a number in decimal, a text as it is, a pair with a bar between its parts
 abbrev pub atom_text : Atom → List ℕ

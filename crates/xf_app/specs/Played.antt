@@ -10,7 +10,7 @@ use Rattle.xf_app.specs.declared.board.BoardFault.TheVariants as fault
 use Rattle.xf_app.specs.declared.program.Status.{Status}
 use Rattle.xf_app.specs.declared.program.Status.TheVariants as status
 use Rattle.xf_app.specs.declared.program.Tally.{Tally}
-use Rattle.xf_base.specs.Columns.{IsRowOf}
+use Rattle.xf_base.specs.Schema.{IsRowOf}
 use Rattle.xf_engine.specs.Cross.{Contents, IsInt}
 use Rattle.xf_model.specs.Replay.{Progress, after}
 use Rattle.xf_outside.specs.declared.depots.FetchFault.{FetchFault}

@@ -13,7 +13,7 @@ use Rattle.xf_app.specs.declared.program.Status.{Status}
 use Rattle.xf_app.specs.declared.program.Status.TheVariants as status
 use Rattle.xf_base.specs.Bounds.{standard}
 use Rattle.xf_base.specs.Key.{text_cmp}
-use Rattle.xf_base.specs.Words.{word_text}
+use Rattle.xf_base.specs.Word.{word_text}
 use Rattle.xf_engine.specs.Cross.{Contents}
 use Rattle.xf_model.specs.Replay.{Progress, replay}
 use Rattle.xf_outside.specs.Counts.{Rose}

@@ -6,8 +6,8 @@ use Rattle.std.specs.Str.Lines.{lines}
 use Rattle.xf_app.specs.declared.script.Command.{Command}
 use Rattle.xf_app.specs.declared.script.Command.TheVariants.{Skip, Unknown, Filter}
 use Rattle.xf_base.specs.Fixed.{number_of}
-use Rattle.xf_base.specs.declared.numbers.NumberRefusal.{NumberRefusal}
-use Rattle.xf_engine.specs.declared.ranges.Range.{Range}
+use Rattle.xf_base.specs.declared.fixed.NumberRefusal.{NumberRefusal}
+use Rattle.xf_engine.specs.declared.range.Range.{Range}
 
 -- a session's bytes without one byte order mark in front
 abbrev pub without_mark : List ℕ → List ℕ

@@ -8,9 +8,9 @@ use Rattle.xf_app.specs.declared.session.Refusal.{Refusal}
 use Rattle.xf_app.specs.declared.session.Refusal.TheVariants.{UnknownVerb, NoDimension, WrongKind}
 use Rattle.xf_app.specs.declared.session.Reply.{Reply}
 use Rattle.xf_app.specs.declared.session.Reply.TheVariants.{Skipped, Refused, Moved}
-use Rattle.xf_base.specs.Words.{word_text}
-use Rattle.xf_engine.specs.Cross.{Contents, moved_by}
-use Rattle.xf_engine.specs.declared.ranges.Range.{Range}
+use Rattle.xf_base.specs.Word.{word_text}
+use Rattle.xf_engine.specs.Cross.{Contents, moved_count}
+use Rattle.xf_engine.specs.declared.range.Range.{Range}
 use Rattle.xf_model.specs.Replay.{Outcome, skipped, refused, accepted, step_line}
 
 -- the number and the words of a refusal
@@ -23,7 +23,7 @@ cause WrongKind = codes "9 wrong kind number text"
 abbrev pub ranged : Contents → ℕ → Option Range → Outcome Contents
 ranged state place None = refused (cause WrongKind)
 ranged state place (Some new) =
-    accepted (record state { ranges = slice_set state.ranges place (Some new) }) (codes "moved " ++ decimal (moved_by state place new))
+    accepted (record state { ranges = slice_set state.ranges place (Some new) }) (codes "moved " ++ decimal (moved_count state place new))
 
 -- a range on the dimension of a name, which stands at a place or is none
 abbrev pub filtered : Contents → List ℕ → Option Range → Option ℕ → Outcome Contents

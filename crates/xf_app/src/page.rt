@@ -2,7 +2,7 @@
 ghost use Rattle.std.specs.Prelude.{◌≡◌, ◌++◌, OnOk, decimal};
 ghost use Rattle.xf_app.specs.Page.{atom_text, counts_lines, data_view, entry_line, group_lines, key_text};
 ghost use Rattle.xf_base.specs.Fixed.{fixed_text};
-ghost use Rattle.xf_base.specs.Words.{word_text};
+ghost use Rattle.xf_base.specs.Word.{word_text};
 
 use itoa::Buffer;
 use std::alloc::Global;

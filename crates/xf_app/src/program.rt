@@ -6,7 +6,7 @@ ghost use Rattle.xf_app.specs.Page.{data_view};
 ghost use Rattle.xf_app.specs.Played.{Advances, IsBoard, IsPutFault, PlayedTo, Stepped, ToldAs, ToldRefused, ToldUnfetched};
 ghost use Rattle.xf_app.specs.Program.{Headline, RefusesBoard, RefusesWords, Says, is_option, names_of, refused_line, Wrote, seen_of, session_of};
 ghost use Rattle.xf_app.specs.Session.{command};
-ghost use Rattle.xf_base.specs.Words.{word_text};
+ghost use Rattle.xf_base.specs.Word.{word_text};
 ghost use Rattle.xf_model.specs.Replay.{replay};
 
 use crate::board::{Board, BoardFault, read_board};

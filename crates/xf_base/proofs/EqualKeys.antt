@@ -8,10 +8,10 @@ use Rattle.std.specs.Cmp.{signed_Decides, Equal-is, tied_itself}
 use Rattle.std.specs.Cmp.Lexicographic.{texts_ties, bytes_decides, nat_list_cmp_total}
 use Rattle.xf_base.specs.KeyOrder.{key_cmp_total}
 use Rattle.xf_base.specs.Key.{text_cmp, atom_cmp, key_cmp}
-use Rattle.xf_base.specs.declared.keys.Atom.{Atom}
-use Rattle.xf_base.specs.declared.keys.Atom.TheVariants as atom
-use Rattle.xf_base.specs.declared.keys.Key.{Key}
-use Rattle.xf_base.specs.declared.keys.Key.TheVariants as key
+use Rattle.xf_base.specs.declared.key.Atom.{Atom}
+use Rattle.xf_base.specs.declared.key.Atom.TheVariants as atom
+use Rattle.xf_base.specs.declared.key.Key.{Key}
+use Rattle.xf_base.specs.declared.key.Key.TheVariants as key
 
 -- texts that are equal are one text
 pub text_cmp-equal : (x y : List ℕ) → text_cmp x y ≡ Equal → x ≡ y

@@ -6,7 +6,7 @@ use Rattle.std.specs.Int.Signed.{nat_abs-le}
 use Rattle.std.proofs.lemmas.Bool.Decides.{nat_tests}
 use Rattle.std.proofs.lemmas.Fmt.{decimal_is_IsNumeral_wide}
 use Rattle.xf_base.specs.Fixed.{fixed_text}
-use Rattle.xf_base.specs.Words.{needs_quotes, word_text}
+use Rattle.xf_base.specs.Word.{needs_quotes, word_text}
 use Rattle.xf_base.proofs.WriteNumbers.{decimal_some, digits_plain}
 
 -- a text that is not empty and needs no quotes is a word as it is

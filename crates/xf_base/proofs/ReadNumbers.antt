@@ -6,24 +6,24 @@ use Rattle.std.proofs.lemmas.List.Sums.{fold_more, fold-append, position_or_len_
 use Rattle.std.proofs.lemmas.Bool.{cases_lt}
 use Rattle.std.specs.List.{position_or_len}
 use Rattle.std.proofs.Math.Seq.{take-append-add, take-length}
-use Rattle.xf_base.specs.Fixed.{number_behind, scaled}
+use Rattle.xf_base.specs.Fixed.{number_after, units_of}
 
 -- a digit more
-pub number_behind-more : (front : ℕ) (digits : List ℕ) (i : ℕ) → i < length digits → number_behind front (take (i + 1) digits) ≡ number_behind front (take i digits) * 10 + (get_or digits i 0 - 48)
-number_behind-more front digits i h = fold_more (λ number digit. number * 10 + (digit - 48)) front digits i 0 h
+pub number_after-more : (front : ℕ) (digits : List ℕ) (i : ℕ) → i < length digits → number_after front (take (i + 1) digits) ≡ number_after front (take i digits) * 10 + (get_or digits i 0 - 48)
+number_after-more front digits i h = fold_more (λ number digit. number * 10 + (digit - 48)) front digits i 0 h
 
 -- digits one after the other
-pub number_behind-append : (front : ℕ) (digits more : List ℕ) → number_behind front (digits ++ more) ≡ number_behind (number_behind front digits) more
-number_behind-append front digits more = fold-append (λ number digit. number * 10 + (digit - 48)) front digits more
+pub number_after-append : (front : ℕ) (digits more : List ℕ) → number_after front (digits ++ more) ≡ number_after (number_after front digits) more
+number_after-append front digits more = fold-append (λ number digit. number * 10 + (digit - 48)) front digits more
 
 -- a number that is cut before its digits are read is above the cap just where it would be anyhow
-pub number_behind-min : (cap front : ℕ) (digits : List ℕ) → min (number_behind (min front cap) digits) cap ≡ min (number_behind front digits) cap
-number_behind-min cap front [] = omega arith
-number_behind-min cap front (digit ∷ digits) =
-    let twice : min (number_behind (min (min front cap * 10 + (digit - 48)) cap) digits) cap ≡ min (number_behind (min front cap * 10 + (digit - 48)) digits) cap = number_behind-min cap (min front cap * 10 + (digit - 48)) digits in
-    let once : min (number_behind (min (front * 10 + (digit - 48)) cap) digits) cap ≡ min (number_behind (front * 10 + (digit - 48)) digits) cap = number_behind-min cap (front * 10 + (digit - 48)) digits in
+pub number_after-min : (cap front : ℕ) (digits : List ℕ) → min (number_after (min front cap) digits) cap ≡ min (number_after front digits) cap
+number_after-min cap front [] = omega arith
+number_after-min cap front (digit ∷ digits) =
+    let twice : min (number_after (min (min front cap * 10 + (digit - 48)) cap) digits) cap ≡ min (number_after (min front cap * 10 + (digit - 48)) digits) cap = number_after-min cap (min front cap * 10 + (digit - 48)) digits in
+    let once : min (number_after (min (front * 10 + (digit - 48)) cap) digits) cap ≡ min (number_after (front * 10 + (digit - 48)) digits) cap = number_after-min cap (front * 10 + (digit - 48)) digits in
     let same : min (min front cap * 10 + (digit - 48)) cap ≡ min (front * 10 + (digit - 48)) cap = omega arith in
-    sym twice ∙ (ap (λ n. min (number_behind n digits) cap) same ∙ once)
+    sym twice ∙ (ap (λ n. min (number_after n digits) cap) same ∙ once)
 
 filled_long : (fraction : List ℕ) (decimals : ℕ) → decimals ≤ length fraction → take decimals (fraction ++ replicate decimals 48) ≡ take (min (length fraction) decimals) fraction ++ replicate (decimals - min (length fraction) decimals) 48
 filled_long fraction decimals long =
@@ -45,20 +45,20 @@ take-filled fraction decimals =
     ⊎_elim (λ short. filled_short fraction decimals (omega arith)) (λ long. filled_long fraction decimals long) (cases_lt (length fraction) decimals)
 
 -- the capped steps one after the other give the capped number
-pub scaled-min : (cap : ℕ) (whole fraction : List ℕ) (decimals : ℕ) → min (number_behind (min (number_behind (min (number_behind 0 whole) cap) (take (min (length fraction) decimals) fraction)) cap) (replicate (decimals - min (length fraction) decimals) 48)) cap ≡ min (scaled whole fraction decimals) cap
-scaled-min cap whole fraction decimals =
+pub units_of-min : (cap : ℕ) (whole fraction : List ℕ) (decimals : ℕ) → min (number_after (min (number_after (min (number_after 0 whole) cap) (take (min (length fraction) decimals) fraction)) cap) (replicate (decimals - min (length fraction) decimals) 48)) cap ≡ min (units_of whole fraction decimals) cap
+units_of-min cap whole fraction decimals =
     let kept : List ℕ = take (min (length fraction) decimals) fraction in
     let zeros : List ℕ = replicate (decimals - min (length fraction) decimals) 48 in
-    let all : scaled whole fraction decimals ≡ number_behind (number_behind (number_behind 0 whole) kept) zeros = ap (λ digits. number_behind 0 (whole ++ digits)) (take-filled fraction decimals) ∙ (number_behind-append 0 whole (kept ++ zeros) ∙ number_behind-append (number_behind 0 whole) kept zeros) in
-    let middle = number_behind-min cap (number_behind 0 whole) kept in
-    let outer = number_behind-min cap (number_behind (number_behind 0 whole) kept) zeros in
-    ap (λ n. min (number_behind n zeros) cap) middle ∙ (outer ∙ ap (λ n. min n cap) (sym all))
+    let all : units_of whole fraction decimals ≡ number_after (number_after (number_after 0 whole) kept) zeros = ap (λ digits. number_after 0 (whole ++ digits)) (take-filled fraction decimals) ∙ (number_after-append 0 whole (kept ++ zeros) ∙ number_after-append (number_after 0 whole) kept zeros) in
+    let middle = number_after-min cap (number_after 0 whole) kept in
+    let outer = number_after-min cap (number_after (number_after 0 whole) kept) zeros in
+    ap (λ n. min (number_after n zeros) cap) middle ∙ (outer ∙ ap (λ n. min n cap) (sym all))
 
 -- the same, step by step as the code takes them
-pub scaled_by_steps : (cap : ℕ) (whole fraction : List ℕ) (decimals d k a b n : ℕ) → d ≡ decimals → k ≡ min (length fraction) d → a ≡ min (number_behind 0 whole) cap → b ≡ min (number_behind a (take k fraction)) cap → n ≡ min (number_behind b (replicate (d - length (take k fraction)) 48)) cap → n ≡ min (scaled whole fraction decimals) cap
-scaled_by_steps cap whole fraction decimals d k a b n is_d is_k is_a is_b is_n =
+pub units_of_by_steps : (cap : ℕ) (whole fraction : List ℕ) (decimals d k a b n : ℕ) → d ≡ decimals → k ≡ min (length fraction) d → a ≡ min (number_after 0 whole) cap → b ≡ min (number_after a (take k fraction)) cap → n ≡ min (number_after b (replicate (d - length (take k fraction)) 48)) cap → n ≡ min (units_of whole fraction decimals) cap
+units_of_by_steps cap whole fraction decimals d k a b n is_d is_k is_a is_b is_n =
     let kept : length (take k fraction) ≡ k = length-take-le k fraction (omega arith) in
-    rw (is_n, kept, is_b, is_a, is_k, is_d) (scaled-min cap whole fraction decimals)
+    rw (is_n, kept, is_b, is_a, is_k, is_d) (units_of-min cap whole fraction decimals)
 
 -- the first point stands where no byte before it is one
 pub position-point : (text : List ℕ) (i : ℕ) → i ≤ length text → ((k : ℕ) → k < i → (get_or text k 0 == 46) ≡ false) → (i < length text → (get_or text i 0 == 46) ≡ true) → position_or_len (λ b. b == 46) text ≡ i

@@ -7,7 +7,7 @@ use Rattle.std.proofs.lemmas.Str.Parse.{digit_from_value}
 use Rattle.std.proofs.lemmas.Bool.Decides.{nat_tests}
 use Rattle.std.proofs.lemmas.List.{take-take, length-append}
 use Rattle.std.proofs.Math.Seq.{take-append_seam}
-use Rattle.xf_base.specs.Words.{needs_quotes}
+use Rattle.xf_base.specs.Word.{needs_quotes}
 
 -- a number of an i128's size has a digit
 pub decimal_some : (n : ℕ) → n ≤ 2 ^ 127 → 0 < length (decimal n)

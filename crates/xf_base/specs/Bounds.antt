@@ -1,5 +1,6 @@
 -- The numbers of `Limits`.
 use Rattle.std.specs.Prelude.{◌≡◌, ℕ, ◌≤◌}
+use Rattle.xf_base.specs.declared.limits.TheConstants.Limits.{DIMENSIONS, GROUPS, COLUMNS, ROWS, ENTRIES, CELL_VALUES, CELL_BYTES, TEXT_BYTES, FILE_BYTES, LINE_BYTES, CHARTS, MARKS}
 
 pub record Bounds : Type 0 where
   pub dimensions : ℕ
@@ -18,31 +19,31 @@ pub record Bounds : Type 0 where
 -- the limits that stand where nobody lowers any
 abbrev pub standard : Bounds
 standard = record {
-  dimensions = 32;
-  groups = 64;
-  columns = 64;
-  rows = 1000000;
-  entries = 16000000;
-  cell_values = 64;
-  cell_bytes = 4096;
-  text_bytes = 134217728;
-  file_bytes = 134217728;
-  line_bytes = 65536;
-  charts = 32;
-  marks = 10000;
+  dimensions = DIMENSIONS;
+  groups = GROUPS;
+  columns = COLUMNS;
+  rows = ROWS;
+  entries = ENTRIES;
+  cell_values = CELL_VALUES;
+  cell_bytes = CELL_BYTES;
+  text_bytes = TEXT_BYTES;
+  file_bytes = FILE_BYTES;
+  line_bytes = LINE_BYTES;
+  charts = CHARTS;
+  marks = MARKS;
 }
 
 -- no number is above its standard, and only some may be lower
 pub record AreLimits (bounds : Bounds) : Type 0 where
-  pub dimensions : bounds.dimensions ≤ 32
-  pub groups : bounds.groups ≤ 64
-  pub columns : bounds.columns ≡ 64
-  pub rows : bounds.rows ≤ 1000000
-  pub entries : bounds.entries ≤ 16000000
-  pub cell_values : bounds.cell_values ≡ 64
-  pub cell_bytes : bounds.cell_bytes ≡ 4096
-  pub text_bytes : bounds.text_bytes ≤ 134217728
-  pub file_bytes : bounds.file_bytes ≤ 134217728
-  pub line_bytes : bounds.line_bytes ≡ 65536
-  pub charts : bounds.charts ≡ 32
-  pub marks : bounds.marks ≡ 10000
+  pub dimensions : bounds.dimensions ≤ DIMENSIONS
+  pub groups : bounds.groups ≤ GROUPS
+  pub columns : bounds.columns ≡ COLUMNS
+  pub rows : bounds.rows ≤ ROWS
+  pub entries : bounds.entries ≤ ENTRIES
+  pub cell_values : bounds.cell_values ≡ CELL_VALUES
+  pub cell_bytes : bounds.cell_bytes ≡ CELL_BYTES
+  pub text_bytes : bounds.text_bytes ≤ TEXT_BYTES
+  pub file_bytes : bounds.file_bytes ≤ FILE_BYTES
+  pub line_bytes : bounds.line_bytes ≡ LINE_BYTES
+  pub charts : bounds.charts ≡ CHARTS
+  pub marks : bounds.marks ≡ MARKS

@@ -5,10 +5,10 @@ use Rattle.std.specs.declared.cmp.Ordering.TheVariants.{Less, Greater}
 use Rattle.std.specs.Int.{w64}
 use Rattle.std.specs.Ordering.{int_cmp, nat_cmp, ordering_then}
 use Rattle.std.specs.Cmp.Lexicographic.{slice_cmp}
-use Rattle.xf_base.specs.declared.keys.Atom.{Atom}
-use Rattle.xf_base.specs.declared.keys.Atom.TheVariants as atom
-use Rattle.xf_base.specs.declared.keys.Key.{Key}
-use Rattle.xf_base.specs.declared.keys.Key.TheVariants as key
+use Rattle.xf_base.specs.declared.key.Atom.{Atom}
+use Rattle.xf_base.specs.declared.key.Atom.TheVariants as atom
+use Rattle.xf_base.specs.declared.key.Key.{Key}
+use Rattle.xf_base.specs.declared.key.Key.TheVariants as key
 
 -- texts are ordered by their bytes
 abbrev pub text_cmp : List ℕ → List ℕ → Ordering

@@ -6,10 +6,10 @@ use Rattle.std.specs.Ordering.{int_cmp, nat_cmp, ordering_then, on, then_cmp}
 use Rattle.std.specs.Cmp.{IsTotalOrder, on_total, then_total, nat_cmp_total, int_cmp_total}
 use Rattle.std.specs.Cmp.Lexicographic.{nat_list_cmp_total}
 use Rattle.xf_base.specs.Key.{text_cmp, atom_cmp, key_cmp}
-use Rattle.xf_base.specs.declared.keys.Atom.{Atom}
-use Rattle.xf_base.specs.declared.keys.Atom.TheVariants as atom
-use Rattle.xf_base.specs.declared.keys.Key.{Key}
-use Rattle.xf_base.specs.declared.keys.Key.TheVariants as key
+use Rattle.xf_base.specs.declared.key.Atom.{Atom}
+use Rattle.xf_base.specs.declared.key.Atom.TheVariants as atom
+use Rattle.xf_base.specs.declared.key.Key.{Key}
+use Rattle.xf_base.specs.declared.key.Key.TheVariants as key
 
 then_Equal : (first : Ordering) → ordering_then first Equal ≡ first
 then_Equal Less = refl

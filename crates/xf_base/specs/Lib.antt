@@ -1,8 +1,8 @@
 pub mod Key
 pub mod KeyOrder
 pub mod Bounds
-pub mod Cells
-pub mod Columns
+pub mod Cell
+pub mod Schema
 pub mod Fixed
-pub mod Limits
-pub mod Words
+pub mod LimitsFields
+pub mod Word

@@ -5,26 +5,32 @@
 //! read and written exactly as `specs/` says.
 #![tactic(auto)]
 
-mod cells;
-mod columns;
-mod counting;
-mod keys;
+mod cell;
+mod column;
+mod fixed;
+mod key;
 mod limits;
-mod lists;
-mod memory;
-mod numbers;
+mod list_of;
+mod number;
+mod out_of_memory;
+mod row;
+mod schema;
+mod steps;
 #[cfg(test)]
 mod tests;
-mod texts;
-mod words;
+mod text;
+mod word;
 
-pub use cells::{Cell, Row, RowList, TextList};
-pub use columns::{Column, ColumnKind, Schema};
-pub use counting::Steps;
-pub use keys::{Atom, Key};
+pub use cell::{Cell, TextList};
+pub use column::{Column, ColumnKind};
+pub use fixed::{GREATEST_NUMBER, NumberRefusal, put_fixed, read_fixed};
+pub use key::{Atom, Key};
 pub use limits::Limits;
-pub use lists::ListOf;
-pub use memory::OutOfMemory;
-pub use numbers::{NumberRefusal, put_fixed, read_fixed};
-pub use texts::Text;
-pub use words::put_word;
+pub use list_of::ListOf;
+pub use number::put_number;
+pub use out_of_memory::OutOfMemory;
+pub use row::{Row, RowList};
+pub use schema::Schema;
+pub use steps::Steps;
+pub use text::Text;
+pub use word::put_word;

@@ -4,32 +4,33 @@ ghost use Rattle.xf_base.specs.Bounds.{standard};
 
 use std::marker::Model;
 
-/// The greatest numbers that are taken. None is above its standard.
+/// The greatest numbers that are taken. None is above its standard, which is the constant of its name; dimensions,
+/// groups, rows, entries, bytes of text and bytes of a file may be lower, and no others.
 #[derive(Clone, Copy)]
 pub struct Limits {
-    /// Dimensions at a time: 32.
+    /// Dimensions at a time.
     pub dimensions: u64,
-    /// Groups and wholes together, at a time: 64.
+    /// Groups and wholes together, at a time.
     pub groups: u64,
-    /// Columns of a schema: 64.
+    /// Columns of a schema.
     pub columns: u64,
-    /// Records: 1,000,000.
+    /// Records.
     pub rows: u64,
-    /// Entries of all dimensions, one for each key of each record: 16,000,000.
+    /// Entries of all dimensions, one for each key of each record.
     pub entries: u64,
-    /// Values of one cell: 64.
+    /// Values of one cell.
     pub cell_values: u64,
-    /// Bytes of one cell: 4,096.
+    /// Bytes of one cell.
     pub cell_bytes: u64,
-    /// Bytes of all texts: 134,217,728.
+    /// Bytes of all texts.
     pub text_bytes: u64,
-    /// Bytes of one file: 134,217,728.
+    /// Bytes of one file.
     pub file_bytes: u64,
-    /// Bytes of one session line, its end not counted: 65,536.
+    /// Bytes of one session line, its end not counted.
     pub line_bytes: u64,
-    /// Charts of a board: 32.
+    /// Charts of a board.
     pub charts: u64,
-    /// Marks of a chart: 10,000.
+    /// Marks of a chart.
     pub marks: u64,
 }
 
@@ -38,7 +39,7 @@ impl Model for Limits {
 
     ghost Value = { Bounds };
 
-    ghost use Rattle.xf_base.specs.Limits.{bounds_of, fields_of};
+    ghost use Rattle.xf_base.specs.LimitsFields.{bounds_of, fields_of};
 
     ghost view = { bounds_of };
 
@@ -48,23 +49,47 @@ impl Model for Limits {
 }
 
 impl Limits {
+    pub const DIMENSIONS: u64 = 32;
+
+    pub const GROUPS: u64 = 64;
+
+    pub const COLUMNS: u64 = 64;
+
+    pub const ROWS: u64 = 1_000_000;
+
+    pub const ENTRIES: u64 = 16_000_000;
+
+    pub const CELL_VALUES: u64 = 64;
+
+    pub const CELL_BYTES: u64 = 4_096;
+
+    pub const TEXT_BYTES: u64 = 134_217_728;
+
+    pub const FILE_BYTES: u64 = 134_217_728;
+
+    pub const LINE_BYTES: u64 = 65_536;
+
+    pub const CHARTS: u64 = 32;
+
+    pub const MARKS: u64 = 10_000;
+
     /// The standard limits.
     pub fn standard() -> Limits
         ensures { result ≡ standard }
     {
         Limits {
-            dimensions: 32,
-            groups: 64,
-            columns: 64,
-            rows: 1_000_000,
-            entries: 16_000_000,
-            cell_values: 64,
-            cell_bytes: 4_096,
-            text_bytes: 134_217_728,
-            file_bytes: 134_217_728,
-            line_bytes: 65_536,
-            charts: 32,
-            marks: 10_000,
+            dimensions: Limits::DIMENSIONS,
+            groups: Limits::GROUPS,
+            columns: Limits::COLUMNS,
+            rows: Limits::ROWS,
+            entries: Limits::ENTRIES,
+            cell_values: Limits::CELL_VALUES,
+            cell_bytes: Limits::CELL_BYTES,
+            text_bytes: Limits::TEXT_BYTES,
+            file_bytes: Limits::FILE_BYTES,
+            line_bytes: Limits::LINE_BYTES,
+            charts: Limits::CHARTS,
+            marks: Limits::MARKS,
         }
     }
 }

@@ -2,8 +2,8 @@
 ghost use Rattle.std.specs.Prelude.{◌≡◌, ◌<◌};
 
 use crate::{
-    Atom, Cell, Column, ColumnKind, Key, Limits, ListOf, NumberRefusal, OutOfMemory, Row, Schema,
-    Steps, Text, TextList, put_fixed, put_word, read_fixed,
+    Atom, Cell, Column, ColumnKind, Key, Limits, ListOf, NumberRefusal, OutOfMemory, Row, RowList,
+    Schema, Steps, Text, TextList, put_fixed, put_number, put_word, read_fixed,
 };
 use std::alloc::Global;
 use std::cmp::Ordering;
@@ -65,6 +65,15 @@ fn writes_numbers(rt: HostRuntime) -> Result<(), Fail> {
         put_fixed(&mut out, number, decimals)?;
         assert_eq!(rt; out.as_slice(), want.as_bytes(), "at {number}");
     }
+    Ok(())
+}
+
+#[test]
+fn writes_counts(rt: HostRuntime) -> Result<(), Fail> {
+    let mut out = Vec::new(rt.alloc());
+    put_number(&mut out, u64::MAX)?;
+    put_number(&mut out, 0)?;
+    assert_eq!(rt; out.as_slice(), b"184467440737095516150".as_slice());
     Ok(())
 }
 
@@ -131,6 +140,10 @@ fn copies_rows(rt: HostRuntime) -> Result<(), Fail> {
     row.append(a_row(rt.alloc())?)?;
     assert_eq!(rt; row.as_slice().len(), 6);
     assert_eq!(rt; ListOf::from_vec(vec![in rt.alloc(); 1, 2]?).len(), 2);
+    let mut rows = RowList::new(rt.alloc());
+    rows.push(row)?;
+    rows.push(a_row(rt.alloc())?)?;
+    assert_eq!(rt; rows.text_bytes(), 30);
     Ok(())
 }
 
@@ -190,6 +203,8 @@ fn holds_schemas_and_limits(rt: HostRuntime) -> Result<(), Fail> {
     })?;
     assert_eq!(rt; schema.len(), 1);
     assert!(rt; schema.as_slice()[0].kind == ColumnKind::Fixed(2));
+    assert_eq!(rt; schema.place_of(b"price"), Some(0));
+    assert_eq!(rt; schema.place_of(b"Price"), None);
     assert_eq!(rt; Limits::standard().rows, 1_000_000);
     Ok(())
 }

@@ -2,8 +2,8 @@
 use Rattle.std.proofs.Common.{◌≡◌, ℕ, zero, suc, ◌+◌, ◌&&◌, List, [], ◌∷◌, Option, take, drop, refl, sym, ◌∙◌, ap, arith}
 use Rattle.std.proofs.Math.Bool.{and_assoc}
 use Rattle.std.specs.List.{remove}
-use Rattle.xf_base.specs.declared.cells.Cell.{Cell}
-use Rattle.xf_engine.specs.declared.ranges.Range.{Range}
+use Rattle.xf_base.specs.declared.cell.Cell.{Cell}
+use Rattle.xf_engine.specs.declared.range.Range.{Range}
 use Rattle.xf_engine.specs.Cross.{dimension_of, dimensions_from}
 use Rattle.xf_model.specs.Dimension.{passes, passes_each}
 

@@ -2,16 +2,16 @@
 use Rattle.std.specs.Prelude.{◌≡◌, ℕ, ℤ, ◌+◌, ◌≤◌, List, [], ◌∷◌, length, map, pos, Option, Some, None, slice_get, slice_index_or}
 use Rattle.std.specs.List.{AllByRecursion}
 use Rattle.xf_base.specs.Bounds.{Bounds}
-use Rattle.xf_base.specs.Columns.{IsRowOf}
+use Rattle.xf_base.specs.Schema.{IsRowOf}
 use Rattle.xf_base.specs.Key.{key_cmp}
-use Rattle.xf_base.specs.declared.cells.Cell.{Cell}
-use Rattle.xf_base.specs.declared.cells.Cell.TheVariants as cell
-use Rattle.xf_base.specs.declared.columns.Column.{Column}
-use Rattle.xf_base.specs.declared.columns.ColumnKind.TheVariants as kind
-use Rattle.xf_base.specs.declared.keys.Key.{Key}
-use Rattle.xf_base.specs.declared.keys.Key.TheVariants as key
-use Rattle.xf_engine.specs.declared.ranges.KeyNumber.{KeyNumber}
-use Rattle.xf_engine.specs.declared.ranges.Range.{Range}
+use Rattle.xf_base.specs.declared.cell.Cell.{Cell}
+use Rattle.xf_base.specs.declared.cell.Cell.TheVariants as cell
+use Rattle.xf_base.specs.declared.column.Column.{Column}
+use Rattle.xf_base.specs.declared.column.ColumnKind.TheVariants as kind
+use Rattle.xf_base.specs.declared.key.Key.{Key}
+use Rattle.xf_base.specs.declared.key.Key.TheVariants as key
+use Rattle.xf_engine.specs.declared.key_number.KeyNumber.{KeyNumber}
+use Rattle.xf_engine.specs.declared.range.Range.{Range}
 use Rattle.xf_model.specs.Dimension.{Dimension, Filter, all, range, selected}
 use Rattle.xf_model.specs.Group.{count, group_entries}
 use Rattle.xf_model.specs.Moved.{moved}
@@ -78,8 +78,8 @@ abbrev pub key_numbers : List (Key × ℕ) → List KeyNumber
 key_numbers counts = map (λ entry. record { key = entry.0; number = pos entry.1 }) counts
 
 -- how many rows a new range moves in a column's dimension
-abbrev pub moved_by : Contents → ℕ → Range → ℕ
-moved_by cross column new =
+abbrev pub moved_count : Contents → ℕ → Range → ℕ
+moved_count cross column new =
     moved (column_keys column) (filter_of (slice_index_or cross.ranges column None)) (filter_of (Some new)) cross.rows
 
 -- what is true of every crossfilter: there are at most 32 columns, all of them of numbers, and the rows are theirs

@@ -1,7 +1,7 @@
 //! Worked examples: two columns, some records, and what is seen after each filter.
 ghost use Rattle.std.specs.Prelude.{◌≡◌, ◌<◌, ◌≤◌, length, IfOk};
 ghost use Rattle.std.specs.List.{AllByRecursion};
-ghost use Rattle.xf_base.specs.Columns.{IsRowOf};
+ghost use Rattle.xf_base.specs.Schema.{IsRowOf};
 ghost use Rattle.xf_engine.specs.Cross.{IsInt};
 
 use crate::{Cross, KeyNumber, Range};

@@ -2,9 +2,9 @@
 use Rattle.std.proofs.Common.{◌≡◌, ℕ, ℤ, Some, ◌+◌, ◌-◌, ◌<◌, suc, Bool, false, ◌&&◌, List, [], ◌++◌, map, take, drop, get_or, ◌∷◌, cond, not, true, if◌then◌else◌, length, refl, sym, ap, ◌∙◌, add-one, arith}
 use mathlib.Core.Bool.{beq}
 use Rattle.std.specs.Ordering.{int_cmp}
-use Rattle.xf_model.specs.declared.dimensions.PlainDimension.{PlainDimension}
+use Rattle.xf_model.specs.declared.dimension.PlainDimension.{PlainDimension}
 use Rattle.xf_model.specs.Dimension.{Filter, selected}
-use Rattle.xf_model.specs.Group.{count, reduced, has_key}
+use Rattle.xf_model.specs.Group.{count, fold_of, has_key}
 use Rattle.xf_model.specs.Moved.{exactly_one, moved_keys}
 use Rattle.xf_model.specs.Plain.{column_keys, plain_dimension}
 use Rattle.std.specs.List.{list_all, filter, remove, take-map, drop-map}
@@ -39,4 +39,4 @@ moved_one a b old new key is_a is_b = rw (← is_a, ← is_b) (one_of_two a b)
 
 -- the entry of a key, in a group of the dimension at a place, over a column
 abbrev pub entry_at : List PlainDimension → ℕ → ℕ → List (List ℤ) → ℤ → ℤ × ℕ
-entry_at dimensions own column rows key = (key, reduced count (filter (has_key int_cmp (column_keys column) key) (selected (map plain_dimension dimensions) (Some own) rows)))
+entry_at dimensions own column rows key = (key, fold_of count (filter (has_key int_cmp (column_keys column) key) (selected (map plain_dimension dimensions) (Some own) rows)))

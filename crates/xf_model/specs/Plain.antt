@@ -2,9 +2,9 @@
 use Rattle.std.specs.Prelude.{ℕ, ℤ, List, [], Option, Some, None, slice_get}
 use Rattle.std.specs.Option.{option_to_list}
 use Rattle.std.specs.Ordering.{int_cmp}
-use Rattle.xf_model.specs.declared.dimensions.PlainRange.{PlainRange}
-use Rattle.xf_model.specs.declared.dimensions.PlainDimension.{PlainDimension}
-use Rattle.xf_model.specs.declared.groups.PlainEntry.{PlainEntry}
+use Rattle.xf_model.specs.declared.dimension.PlainRange.{PlainRange}
+use Rattle.xf_model.specs.declared.dimension.PlainDimension.{PlainDimension}
+use Rattle.xf_model.specs.declared.group.PlainEntry.{PlainEntry}
 use Rattle.xf_model.specs.Dimension.{Filter, Dimension, all, range}
 
 -- the number in a column, or no key where the row is too short

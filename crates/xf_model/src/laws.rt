@@ -8,7 +8,7 @@ ghost use Rattle.std.specs.List.Sorted.{IsStrictlySortedBy, IsPermutation};
 ghost use Rattle.std.specs.Ordering.{is_eq};
 ghost use Rattle.std.specs.declared.cmp.Ordering.{Ordering};
 ghost use Rattle.xf_model.specs.Dimension.{Dimension, Filter, passes, selected};
-ghost use Rattle.xf_model.specs.Group.{Reducer, ascending, count, group_entries, group_keys, reduced};
+ghost use Rattle.xf_model.specs.Group.{Reducer, distinct_keys, count, group_entries, group_keys, fold_of};
 ghost use Rattle.xf_model.specs.Moved.{moved};
 ghost use Rattle.xf_model.specs.Replay.{Outcome, after, replay, session_text};
 
@@ -16,14 +16,14 @@ ghost use Rattle.xf_model.specs.Replay.{Outcome, after, replay, session_text};
 /// them, each of them is in the list, and no other strictly ascending keys tie alike. So the order of the list does
 /// not matter, and what embeds one order into another takes them along.
 pub fn ascending_keys<Key, Other>()
-    ensures sorted { (cmp : Key → Key → Ordering) (keys : List Key) → IsTotalOrder cmp → IsStrictlySortedBy cmp (ascending cmp keys) }
-    ensures ties { (cmp : Key → Key → Ordering) (keys : List Key) (key : Key) → IsTotalOrder cmp → list_any (λ own. is_eq (cmp key own)) (ascending cmp keys) ≡ list_any (λ own. is_eq (cmp key own)) keys }
-    ensures members { (cmp : Key → Key → Ordering) (keys : List Key) → All (Contains keys) (ascending cmp keys) }
-    ensures only { (cmp : Key → Key → Ordering) (keys found : List Key) → IsTotalOrder cmp → IsAntisymmetric cmp → IsStrictlySortedBy cmp found → ((key : Key) → list_any (λ own. is_eq (cmp key own)) found ≡ list_any (λ own. is_eq (cmp key own)) keys) → found ≡ ascending cmp keys }
-    ensures settled { (cmp : Key → Key → Ordering) (keys : List Key) → IsStrictlySortedBy cmp keys → ascending cmp keys ≡ keys }
-    ensures order_free { (cmp : Key → Key → Ordering) (keys others : List Key) → IsTotalOrder cmp → IsAntisymmetric cmp → IsPermutation keys others → ascending cmp keys ≡ ascending cmp others }
-    ensures joined { (cmp : Key → Key → Ordering) (xs ys : List Key) → IsTotalOrder cmp → IsAntisymmetric cmp → ascending cmp (xs ++ ys) ≡ ascending cmp (ascending cmp xs ++ ascending cmp ys) }
-    ensures embedded { (cmp : Key → Key → Ordering) (other : Other → Other → Ordering) (f : Key → Other) (keys : List Key) → ((a b : Key) → other (f a) (f b) ≡ cmp a b) → ascending other (map f keys) ≡ map f (ascending cmp keys) }
+    ensures sorted { (cmp : Key → Key → Ordering) (keys : List Key) → IsTotalOrder cmp → IsStrictlySortedBy cmp (distinct_keys cmp keys) }
+    ensures ties { (cmp : Key → Key → Ordering) (keys : List Key) (key : Key) → IsTotalOrder cmp → list_any (λ own. is_eq (cmp key own)) (distinct_keys cmp keys) ≡ list_any (λ own. is_eq (cmp key own)) keys }
+    ensures members { (cmp : Key → Key → Ordering) (keys : List Key) → All (Contains keys) (distinct_keys cmp keys) }
+    ensures only { (cmp : Key → Key → Ordering) (keys found : List Key) → IsTotalOrder cmp → IsAntisymmetric cmp → IsStrictlySortedBy cmp found → ((key : Key) → list_any (λ own. is_eq (cmp key own)) found ≡ list_any (λ own. is_eq (cmp key own)) keys) → found ≡ distinct_keys cmp keys }
+    ensures settled { (cmp : Key → Key → Ordering) (keys : List Key) → IsStrictlySortedBy cmp keys → distinct_keys cmp keys ≡ keys }
+    ensures order_free { (cmp : Key → Key → Ordering) (keys others : List Key) → IsTotalOrder cmp → IsAntisymmetric cmp → IsPermutation keys others → distinct_keys cmp keys ≡ distinct_keys cmp others }
+    ensures joined { (cmp : Key → Key → Ordering) (xs ys : List Key) → IsTotalOrder cmp → IsAntisymmetric cmp → distinct_keys cmp (xs ++ ys) ≡ distinct_keys cmp (distinct_keys cmp xs ++ distinct_keys cmp ys) }
+    ensures embedded { (cmp : Key → Key → Ordering) (other : Other → Other → Ordering) (f : Key → Other) (keys : List Key) → ((a b : Key) → other (f a) (f b) ≡ cmp a b) → distinct_keys other (map f keys) ≡ map f (distinct_keys cmp keys) }
 {}
 
 /// Rows that are joined are selected each by itself; where no filter is set, all are. What is selected but for one
@@ -38,8 +38,8 @@ pub fn selected_rows<Row, Key>()
 /// The count of rows is their number, and a fold over rows that are joined goes on from the first. A group's keys are
 /// those of the rows whatever the filters, and its entries do not see the filter of its own dimension.
 pub fn group_values<Row, Key, Value>()
-    ensures counted { (rows : List Row) → reduced count rows ≡ length rows }
-    ensures joined { (reducer : Reducer Row Value) (xs ys : List Row) → reduced reducer (xs ++ ys) ≡ fold reducer.step (reduced reducer xs) ys }
+    ensures counted { (rows : List Row) → fold_of count rows ≡ length rows }
+    ensures joined { (reducer : Reducer Row Value) (xs ys : List Row) → fold_of reducer (xs ++ ys) ≡ fold reducer.step (fold_of reducer xs) ys }
     ensures keys_stand { (cmp : Key → Key → Ordering) (keys : Row → List Key) (reducer : Reducer Row Value) (dimensions : List (Dimension Row Key)) (own : ℕ) (rows : List Row) → map (λ (entry : Key × Value). entry.0) (group_entries cmp keys reducer dimensions own rows) ≡ group_keys cmp keys rows }
     ensures own_unseen { (cmp : Key → Key → Ordering) (keys : Row → List Key) (reducer : Reducer Row Value) (dimensions : List (Dimension Row Key)) (own : ℕ) (one other : Dimension Row Key) (rows : List Row) → own ≤ length dimensions → group_entries cmp keys reducer (insert dimensions own one) own rows ≡ group_entries cmp keys reducer (insert dimensions own other) own rows }
 {}

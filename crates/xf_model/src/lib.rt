@@ -15,5 +15,5 @@ mod movements;
 mod tests;
 
 pub use dimensions::{PlainDimension, PlainRange, passes_each, selected};
-pub use groups::{PlainEntry, ascending, group_entries, whole_count};
+pub use groups::{PlainEntry, distinct_keys, group_entries, whole_count};
 pub use movements::moved;

@@ -1,6 +1,6 @@
 //! Worked examples, with the numbers counted by hand.
 use crate::{
-    PlainDimension, PlainEntry, PlainRange, ascending, group_entries, laws, moved, passes_each,
+    PlainDimension, PlainEntry, PlainRange, distinct_keys, group_entries, laws, moved, passes_each,
     selected, whole_count,
 };
 use std::alloc::{AllocError, Global};
@@ -157,7 +157,7 @@ fn takes_rows_without_a_key(rt: HostRuntime) -> Result<(), Fail> {
     assert_eq!(rt; moved(0, None, range, rows.as_slice()), 1);
     assert_eq!(rt; moved(0, range, range, rows.as_slice()), 0);
     assert_eq!(rt;
-        ascending(alloc, &[3, 1, 3, -2])?.as_slice(),
+        distinct_keys(alloc, &[3, 1, 3, -2])?.as_slice(),
         [-2, 1, 3].as_slice()
     );
     laws::ascending_keys::<u8, u8>();

@@ -1,8 +1,8 @@
 //! A table of texts: what it holds, in order, and how many bytes.
 ghost use Rattle.std.specs.Prelude.{◌≡◌, ◌<◌, ◌≤◌, length, IfOk};
 ghost use Rattle.std.specs.List.{AllByRecursion};
-ghost use Rattle.xf_base.specs.Columns.{IsRowOf};
-ghost use Rattle.xf_base.specs.declared.columns.ColumnKind.TheVariants as ColumnKind;
+ghost use Rattle.xf_base.specs.Schema.{IsRowOf};
+ghost use Rattle.xf_base.specs.declared.column.ColumnKind.TheVariants as ColumnKind;
 
 use crate::Table;
 use std::alloc::Global;

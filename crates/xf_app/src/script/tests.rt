@@ -49,23 +49,23 @@ fn cuts_a_text_into_lines(rt: HostRuntime) -> Result<(), Fail> {
 }
 
 /// A line with blanks behind it, up to a number of bytes.
-fn padded(alloc: Global, line: &[u8], bytes: usize) -> Result<Vec<u8>, OutOfMemory> {
-    let mut padded = Vec::from_slice(alloc, line)?;
+fn with_zeros(alloc: Global, line: &[u8], bytes: usize) -> Result<Vec<u8>, OutOfMemory> {
+    let mut with_zeros = Vec::from_slice(alloc, line)?;
     for _ in line.len()..bytes {
-        padded.push(b' ')?;
+        with_zeros.push(b' ')?;
     }
-    Ok(padded)
+    Ok(with_zeros)
 }
 
 #[test]
 fn reads_commands(rt: HostRuntime) -> Result<(), Fail> {
     let filter =
         r#"Filter { dimension: Text { text: "a" }, range: Some(Range { low: 2, high: 3 }) }"#;
-    let signed =
+    let with_sign =
         r#"Filter { dimension: Text { text: "a" }, range: Some(Range { low: -1, high: 7 }) }"#;
     let unread = r#"Filter { dimension: Text { text: "a" }, range: None }"#;
-    let longest = padded(rt.alloc(), b"filter a range 2 3", 65_536)?;
-    let longer = padded(rt.alloc(), b"filter a range 2 3", 65_537)?;
+    let longest = with_zeros(rt.alloc(), b"filter a range 2 3", 65_536)?;
+    let longer = with_zeros(rt.alloc(), b"filter a range 2 3", 65_537)?;
     let cases: [(&[u8], &str); 20] = [
         (b"", "Skip"),
         (b"  ", "Skip"),
@@ -82,7 +82,7 @@ fn reads_commands(rt: HostRuntime) -> Result<(), Fail> {
         (b"filter \xff range 2 3", "Unknown"),
         (b"filter \"a\" range 2 3", "Unknown"),
         (b"filter a range 2 3", filter),
-        (b" filter\ta  range -1 +7. ", signed),
+        (b" filter\ta  range -1 +7. ", with_sign),
         (b"filter a range x 3", unread),
         (b"filter a range 2 3.5", unread),
         (longest.as_slice(), filter),

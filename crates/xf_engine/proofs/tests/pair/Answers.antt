@@ -1,9 +1,9 @@
 use Rattle.std.proofs.Common.{◌≡◌, ℤ, List, [], ◌∷◌, length, arith}
 use Rattle.std.proofs.lemmas.Int.{ints}
 use Rattle.std.specs.List.{AllByRecursion}
-use Rattle.xf_base.specs.Columns.{IsCellNumber, IsRowOf}
-use Rattle.xf_base.specs.declared.cells.Cell.TheVariants as cell
-use Rattle.xf_base.specs.declared.columns.Column.{Column}
+use Rattle.xf_base.specs.Schema.{IsCellNumber, IsRowOf}
+use Rattle.xf_base.specs.declared.cell.Cell.TheVariants as cell
+use Rattle.xf_base.specs.declared.column.Column.{Column}
 use Rattle.xf_engine.specs.Cross.{IsInt}
 use Rattle.xf_engine.proofs.tests.pair.Goals as goal
 

@@ -1,6 +1,6 @@
 use Rattle.std.proofs.Common.{◌≡◌, length}
 use Rattle.std.specs.List.{AllByRecursion}
-use Rattle.xf_base.specs.Columns.{IsRowOf}
+use Rattle.xf_base.specs.Schema.{IsRowOf}
 use Rattle.xf_engine.proofs.tests.pairs.Given as goal
 
 -- a row for each record so far

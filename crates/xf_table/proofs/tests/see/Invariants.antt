@@ -1,7 +1,7 @@
 use Rattle.std.proofs.Common.{◌≡◌}
 use Rattle.std.specs.List.{AllByRecursion}
 use Rattle.xf_base.specs.Bounds.{standard}
-use Rattle.xf_base.specs.declared.columns.ColumnKind.TheVariants as kind
+use Rattle.xf_base.specs.declared.column.ColumnKind.TheVariants as kind
 use Rattle.xf_table.proofs.tests.see.Given as goal
 
 -- the table's column and limits stay

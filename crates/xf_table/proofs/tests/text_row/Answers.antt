@@ -1,9 +1,9 @@
 use Rattle.std.proofs.Common.{◌≡◌, ◌≤◌, ℕ, List, [], ◌∷◌, length, arith}
 use Rattle.std.specs.List.{AllByRecursion}
-use Rattle.xf_base.specs.Columns.{IsRowOf}
-use Rattle.xf_base.specs.declared.cells.Cell.TheVariants as cell
-use Rattle.xf_base.specs.declared.columns.Column.{Column}
-use Rattle.xf_base.specs.declared.columns.ColumnKind.TheVariants as kind
+use Rattle.xf_base.specs.Schema.{IsRowOf}
+use Rattle.xf_base.specs.declared.cell.Cell.TheVariants as cell
+use Rattle.xf_base.specs.declared.column.Column.{Column}
+use Rattle.xf_base.specs.declared.column.ColumnKind.TheVariants as kind
 use Rattle.xf_table.proofs.tests.text_row.Goals as goal
 
 -- a short text is a row of one column of texts

@@ -1,0 +1,75 @@
+//! The schema: the columns of a table.
+ghost use Rattle.std.specs.Prelude.{◌≡◌, ◌<◌, [], ◌∷◌, ◌++◌, length, position, IfSome, OnOk, OnErr};
+ghost use Rattle.std.specs.Str.{bytes_eq};
+
+use crate::column::Column;
+use crate::out_of_memory::OutOfMemory;
+use std::alloc::Global;
+use std::marker::Model;
+
+/// The columns of a table, in order. Decimals are from 0 to 9, separators are ASCII bytes, and a blank is a cell of
+/// its column.
+#[derive(Debug, Drop)]
+pub struct Schema {
+    columns: Vec<Column>,
+}
+
+impl Model for Schema {
+    ghost use Rattle.std.specs.Prelude.{List};
+    ghost use Rattle.std.specs.List.{AllByRecursion};
+    ghost use Rattle.xf_base.specs.declared.column.Column.{Column};
+    ghost use Rattle.xf_base.specs.Schema.{IsColumn};
+
+    ghost Value = { List Column };
+
+    ghost view = { λ schema. schema.columns.items };
+
+    ghost invariant = { λ schema. AllByRecursion IsColumn schema.columns.items };
+}
+
+impl Schema {
+    ghost use Rattle.xf_base.specs.Schema.{IsColumn};
+
+    /// A schema without columns.
+    pub fn new(alloc: Global) -> Schema
+        ensures { result ≡ [] }
+    {
+        Schema {
+            columns: Vec::new(alloc),
+        }
+    }
+
+    /// Puts a column at the end.
+    pub fn push(&mut self, column: Column) -> Result<(), OutOfMemory>
+        requires { IsColumn column }
+        ensures ok { OnOk result (self.new ≡ self.old ++ column ∷ []) }
+        ensures err { OnErr result (self.new ≡ self.old) }
+    {
+        self.columns.push(column)?;
+        Ok(())
+    }
+
+    /// The number of columns.
+    pub fn len(&self) -> usize
+        ensures { result ≡ length self.now }
+    {
+        self.columns.len()
+    }
+
+    /// The columns in order.
+    pub fn as_slice(&self) -> &[Column]
+        ensures { result.now ≡ self.now }
+    {
+        self.columns.as_slice()
+    }
+
+    /// The place, from 0 on, of the first column of a name; None where no column has it.
+    pub fn place_of(&self, name: &[u8]) -> Option<usize>
+        ensures place { result ≡ position (λ column. bytes_eq column.name name.now) self.now }
+        ensures within { IfSome result (λ place. place < length self.now) }
+    {
+        self.columns
+            .iter()
+            .position(|column| column.name.as_str().as_bytes() == name)
+    }
+}

@@ -1,0 +1,14 @@
+use Rattle.std.proofs.Common.{rules}
+use Rattle.std.proofs.lemmas.List.Sorted.{answers_always}
+use Rattle.xf_engine.proofs.Entries.{entries_keyed}
+use Rattle.xf_engine.proofs.Runs.{counts_of-IsPermutation}
+use Rattle.xf_engine.proofs.group.group_rows.Goals as goal
+
+pub collect_entries-requires : goal.collect_entries-requires
+collect_entries-requires c =
+    rw c.deref.ensures.value (c.sort_unstable_by_key.ensures.sorted (λ row. row.key) (answers_always _ _ _ (λ f a r g h. search rules)))
+
+pub returns : goal.returns
+returns c =
+    let same = counts_of-IsPermutation c.in_ok-key_row_of.key_row_of.items c.sort_unstable_by_key.new.self.items c.sort_unstable_by_key.ensures.permutation in
+    rw (entries_keyed, ← c.in_ok-key_row_of.ensures, same, ← c.deref.ensures.value) c.collect_entries.ensures

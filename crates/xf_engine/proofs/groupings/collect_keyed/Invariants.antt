@@ -1,7 +1,0 @@
-use Rattle.std.proofs.Common.{◌≡◌, take}
-use Rattle.xf_engine.specs.Keyed.{keyed_rows}
-use Rattle.xf_engine.proofs.groupings.collect_keyed.Given as goal
-
--- what is collected so far is that of the rows so far
-abbrev pub invariant-loop-row : goal.invariant-loop-row
-invariant-loop-row l = l.collected.items ≡ keyed_rows l.ranges l.column (take l.row-index l.rows)

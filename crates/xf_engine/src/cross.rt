@@ -1,0 +1,127 @@
+//! The crossfilter.
+ghost use Rattle.std.specs.Prelude.{◌≡◌, ◌+◌, ◌*◌, ◌<◌, ◌≤◌, [], ◌++◌, length, IfOk, OnOk, OnErr, None, Some, replicate, slice_set};
+ghost use Rattle.std.specs.List.{AllByRecursion};
+
+use crate::counters::{moved_count, passing_count};
+use crate::groupings::group_rows;
+use crate::ranges::{KeyNumber, Range};
+use std::alloc::Global;
+use std::marker::Model;
+use std::sync::ledger::Ledger;
+use xf_base::{Limits, OutOfMemory, RowList, Schema, Steps};
+use xf_table::Table;
+
+/// The records that are present, and the range that is set on the dimension of each column.
+#[derive(Drop)]
+pub struct Cross {
+    table: Table,
+    ranges: [Option<Range>; 32],
+}
+
+impl Model for Cross {
+    ghost use Rattle.std.specs.Prelude.{length, take};
+    ghost use Rattle.xf_engine.specs.Cross.{Contents, IsCross};
+
+    ghost Value = { Contents };
+
+    ghost view = { λ cross. record { columns = cross.table.columns; limits = cross.table.limits; rows = cross.table.rows; ranges = take (length cross.table.columns) cross.ranges } };
+
+    ghost invariant = { λ cross. IsCross cross.table.columns cross.table.rows };
+}
+
+impl Cross {
+    ghost use Rattle.xf_base.specs.Schema.{IsRowOf};
+    ghost use Rattle.xf_engine.specs.Cross.{IsInt, entries, key_numbers, moved_count, passing};
+
+    /// A crossfilter without records, with no filter set on any dimension. It takes no memory yet.
+    pub fn new(alloc: Global, schema: Schema, limits: Limits) -> Cross
+        requires all_int { AllByRecursion IsInt schema }
+        requires few { length schema ≤ limits.dimensions }
+        ensures columns { result.columns ≡ schema }
+        ensures limits { result.limits ≡ limits }
+        ensures rows { result.rows ≡ [] }
+        ensures ranges { result.ranges ≡ replicate (length schema) None }
+    {
+        Cross {
+            table: Table::new(alloc, schema, limits),
+            ranges: [None; 32],
+        }
+    }
+
+    /// Adds records at the end. Each group's entries then have the new keys too.
+    pub fn add_records<L: Ledger>(
+        &mut self,
+        rows: RowList,
+        steps: &mut Steps<L>,
+    ) -> Result<(), OutOfMemory>
+        requires fits { length self.old.rows + length rows ≤ self.old.limits.rows }
+        requires entries { (length self.old.rows + length rows) * length self.old.columns ≤ self.old.limits.entries }
+        requires of_schema { AllByRecursion (IsRowOf self.old.columns) rows }
+        ensures ok { OnOk result (self.new ≡ record self.old { rows = self.old.rows ++ rows }) }
+        ensures err { OnErr result (self.new ≡ self.old) }
+    {
+        steps.tick_by(rows.len() as u64);
+        self.table.append(rows)
+    }
+
+    /// Sets the range from `low` on and below `high` on a dimension, in place of what was set. Gives how many
+    /// records it moves: those for which exactly one of the two holds.
+    pub fn set_filter<L: Ledger>(
+        &mut self,
+        dimension: usize,
+        low: i64,
+        high: i64,
+        steps: &mut Steps<L>,
+    ) -> u64
+        requires { dimension < length self.old.columns }
+        ensures moved { result ≡ moved_count self.old dimension (record { low = low; high = high }) }
+        ensures filter { self.new ≡ record self.old { ranges = slice_set self.old.ranges dimension (Some (record { low = low; high = high })) } }
+    {
+        let new = Range { low, high };
+        let rows = self.table.rows(steps);
+        let moved = moved_count(rows.as_slice(), dimension, self.ranges[dimension], new);
+        self.ranges[dimension] = Some(new);
+        moved
+    }
+
+    /// The number of records.
+    pub fn size(&self) -> u64
+        ensures { result ≡ length self.now.rows }
+    {
+        self.table.len() as u64
+    }
+
+    /// How many records pass every dimension.
+    pub fn passing_count<L: Ledger>(&self, steps: &mut Steps<L>) -> u64
+        ensures { result ≡ passing self.now }
+    {
+        let columns = self.schema().len();
+        passing_count(self.table.rows(steps).as_slice(), &self.ranges[..columns])
+    }
+
+    /// The entries of a dimension's group, keys ascending: for each key of a record that is present, how many records
+    /// have it and pass every other dimension.
+    pub fn group_all<L: Ledger>(
+        &self,
+        alloc: Global,
+        dimension: usize,
+        steps: &mut Steps<L>,
+    ) -> Result<Vec<KeyNumber>, OutOfMemory>
+        requires { dimension < length self.now.columns }
+        ensures { IfOk result (λ v. v.items ≡ key_numbers (entries self.now dimension)) }
+    {
+        let columns = self.schema().len();
+        group_rows(
+            alloc,
+            self.table.rows(steps).as_slice(),
+            &self.ranges[..columns],
+            dimension,
+        )
+    }
+
+    pub fn schema(&self) -> &Schema
+        ensures { result.now ≡ self.now.columns }
+    {
+        self.table.schema()
+    }
+}

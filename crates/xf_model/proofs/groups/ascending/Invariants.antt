@@ -1,8 +1,0 @@
--- What is found so far are the distinct keys so far, ascending.
-use Rattle.std.proofs.Common.{◌≡◌, take}
-use Rattle.std.specs.Ordering.{int_cmp}
-use Rattle.xf_model.specs.Group.{ascending}
-use Rattle.xf_model.proofs.groups.ascending.Given as goal
-
-abbrev pub invariant-loop-key : goal.invariant-loop-key
-invariant-loop-key l = l.found.items ≡ ascending int_cmp (take l.key-index l.keys)

@@ -1,0 +1,107 @@
+//! The table.
+ghost use Rattle.std.specs.Prelude.{◌≡◌, ◌==◌, ◌+◌, ◌<◌, ◌≤◌, [], length, OnOk, OnErr, slice_get, Some};
+ghost use Rattle.std.specs.List.{AllByRecursion};
+
+use crate::measures::rows_size;
+use std::alloc::Global;
+use std::marker::Model;
+use std::sync::ledger::Ledger;
+use xf_base::{Limits, OutOfMemory, Row, RowList, Schema, Steps};
+
+/// The records that are present. Rows are only added, at the end.
+#[derive(Drop)]
+pub struct Table {
+    schema: Schema,
+    limits: Limits,
+    rows: RowList,
+    text: u64,
+}
+
+impl Model for Table {
+    ghost use Rattle.xf_table.specs.Table.{Contents, IsTable};
+
+    ghost Value = { Contents };
+
+    ghost view = { λ table. record { columns = table.schema; limits = table.limits; rows = table.rows } };
+
+    ghost invariant = { λ table. IsTable table.schema table.limits table.rows table.text };
+}
+
+impl Table {
+    ghost use Rattle.xf_base.specs.Schema.{IsRowOf};
+    ghost use Rattle.xf_table.specs.Table.{with_rows, text_of_rows};
+
+    /// A table without rows, which takes no memory yet.
+    pub fn new(alloc: Global, schema: Schema, limits: Limits) -> Table
+        ensures columns { result.columns ≡ schema }
+        ensures limits { result.limits ≡ limits }
+        ensures rows { result.rows ≡ [] }
+    {
+        Table {
+            schema,
+            limits,
+            rows: RowList::new(alloc),
+            text: 0,
+        }
+    }
+
+    /// Puts rows at the end, in one move. Without memory for them they are dropped.
+    pub fn append(&mut self, rows: RowList) -> Result<(), OutOfMemory>
+        requires fits { length self.old.rows + length rows ≤ self.old.limits.rows }
+        requires of_schema { AllByRecursion (IsRowOf self.old.columns) rows }
+        ensures ok { OnOk result (self.new ≡ with_rows self.old rows) }
+        ensures err { OnErr result (self.new ≡ self.old) }
+    {
+        let text = self.text.saturating_add(rows_size(rows.as_slice()));
+        self.rows.append(rows)?;
+        self.text = text;
+        Ok(())
+    }
+
+    /// The row at a place from 0 on.
+    pub fn row<L: Ledger>(&self, place: usize, steps: &mut Steps<L>) -> &Row
+        requires { place < length self.now.rows }
+        ensures row { Some result.now ≡ slice_get self.now.rows place }
+        ensures cost { steps.new ≡ steps.old + 1 }
+    {
+        steps.tick();
+        let rows = self.rows.as_slice();
+        &rows[place]
+    }
+
+    /// All rows, at the cost of one step for each.
+    pub fn rows<L: Ledger>(&self, steps: &mut Steps<L>) -> &RowList
+        ensures rows { result.now ≡ self.now.rows }
+        ensures cost { steps.new ≡ steps.old + length self.now.rows }
+    {
+        steps.tick_by(self.rows.len() as u64);
+        &self.rows
+    }
+
+    /// The number of rows.
+    pub fn len(&self) -> usize
+        ensures { result ≡ length self.now.rows }
+    {
+        self.rows.len()
+    }
+
+    /// Whether there is no row.
+    pub fn is_empty(&self) -> bool
+        ensures { result ≡ (length self.now.rows == 0) }
+    {
+        self.rows.is_empty()
+    }
+
+    /// The bytes of text of all rows, or `u64::MAX` where there are more.
+    pub fn text(&self) -> u64
+        ensures { result ≡ text_of_rows self.now.rows }
+    {
+        self.text
+    }
+
+    pub fn schema(&self) -> &Schema
+        ensures { result.now ≡ self.now.columns }
+    {
+        &self.schema
+    }
+}
