@@ -17,16 +17,16 @@ use Rattle.xf_model.specs.Dimension.{all_but, passes_each}
 use Rattle.xf_model.specs.Group.{distinct_keys, count, group_entries, has_key, fold_of}
 use Rattle.xf_model.proofs.AscendingKeys.{distinct_keys-map}
 
--- the number of a keyed row as a key
+-- the number of a key row as a key
 abbrev key_of : KeyRow → Key
 key_of row = key.Num row.key
 
--- a keyed row has the keys of its number
+-- a key row has the keys of its number
 keys_keyed : (passes : Bool) (number : Option ℤ) → number_keys number ≡ map key_of (key_row_of passes number)
 keys_keyed passes None = refl
 keys_keyed passes (Some number) = refl
 
--- the keys of rows are those of the keyed rows
+-- the keys of rows are those of the key rows
 keys_rows : (test : List Cell → Bool) (column : ℕ) (rows : List (List Cell)) → flat_map (column_keys column) rows ≡ map key_of (flat_map (λ row. key_row_of (test row) (number_of_cell (slice_get row column))) rows)
 keys_rows test column [] = refl
 keys_rows test column (row ∷ rows) =
@@ -39,7 +39,7 @@ map_map : {X Y Z : Type 0} (g : Y → Z) (f : X → Y) (xs : List X) → map g (
 map_map g f [] = refl
 map_map g f (x ∷ xs) = ap (λ ys. g (f x) ∷ ys) (map_map g f xs)
 
--- the ascending keys of keyed rows are their ascending numbers
+-- the ascending keys of key rows are their ascending numbers
 keys_ascending : (rows : List KeyRow) → distinct_keys key_cmp (map key_of rows) ≡ map key.Num (distinct_keys int_cmp (map (λ (row : KeyRow). row.key) rows))
 keys_ascending rows =
     ap (distinct_keys key_cmp) (sym (map_map key.Num (λ (row : KeyRow). row.key) rows)) ∙ distinct_keys-map int_cmp key_cmp key.Num (λ a b. refl) (map (λ (row : KeyRow). row.key) rows)
@@ -51,7 +51,7 @@ count_one true false = refl
 count_one false true = refl
 count_one false false = refl
 
--- a keyed row counts for a number where it has it and passes
+-- a key row counts for a number where it has it and passes
 count_keyed : (passes : Bool) (number : Option ℤ) (own : ℤ) → count_of (key_row_of passes number) own ≡ cond passes (cond (list_any (λ other. is_eq (key_cmp (key.Num own) other)) (number_keys number)) 1 0) 0
 count_keyed true None own = refl
 count_keyed false None own = refl
@@ -90,9 +90,9 @@ entry : Key → ℕ → Key × ℕ
 entry key count = (key, count)
 
 -- the entries of a column's group
-pub entries_keyed : (ranges : List (Option Range)) (column : ℕ) (rows : List (List Cell)) → group_entries key_cmp (column_keys column) count (dimensions_from 0 ranges) column rows ≡ counts_of (key_rows ranges column rows)
+pub entries-key_rows : (ranges : List (Option Range)) (column : ℕ) (rows : List (List Cell)) → group_entries key_cmp (column_keys column) count (dimensions_from 0 ranges) column rows ≡ counts_of (key_rows ranges column rows)
 unfolding entry
-entries_keyed ranges column rows =
+entries-key_rows ranges column rows =
     let test : List Cell → Bool = passes_each (all_but (Some column) (dimensions_from 0 ranges)) in
     let all : List KeyRow = key_rows ranges column rows in
     let numbers : List ℤ = distinct_keys int_cmp (map (λ (row : KeyRow). row.key) all) in

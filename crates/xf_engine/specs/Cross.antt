@@ -1,9 +1,10 @@
 -- What a crossfilter over columns of numbers means: one dimension and one counting group for each column.
-use Rattle.std.specs.Prelude.{◌≡◌, ℕ, ℤ, ◌+◌, ◌≤◌, List, [], ◌∷◌, length, map, pos, Option, Some, None, slice_get, slice_index_or}
-use Rattle.std.specs.List.{AllByRecursion}
+use Rattle.std.specs.Prelude.{◌≡◌, ℕ, ℤ, ◌≤◌, List, [], ◌∷◌, length, map, pos, Option, Some, None, slice_get, slice_index_or}
+use Rattle.std.specs.List.{AllByRecursion, enumerate_from}
 use Rattle.xf_base.specs.Bounds.{Bounds}
 use Rattle.xf_base.specs.Schema.{IsRowOf}
 use Rattle.xf_base.specs.Key.{key_cmp}
+use Rattle.xf_base.specs.declared.limits.TheConstants.Limits.{DIMENSIONS}
 use Rattle.xf_base.specs.declared.cell.Cell.{Cell}
 use Rattle.xf_base.specs.declared.cell.Cell.TheVariants as cell
 use Rattle.xf_base.specs.declared.column.Column.{Column}
@@ -17,7 +18,7 @@ use Rattle.xf_model.specs.Group.{count, group_entries}
 use Rattle.xf_model.specs.Moved.{moved}
 
 -- the columns, how much may be held, the rows in order, and the range that is set on each column's dimension
-pub record Contents : Type 0 where
+pub record State : Type 0 where
   pub columns : List Column
   pub limits : Bounds
   pub rows : List (List Cell)
@@ -58,32 +59,31 @@ dimension_of column chosen = record { keys = column_keys column; chosen = filter
 
 -- the dimensions of the columns from a place on, with the range that is set on each
 abbrev pub dimensions_from : ℕ → List (Option Range) → List (Dimension (List Cell) Key)
-dimensions_from column [] = []
-dimensions_from column (chosen ∷ rest) = dimension_of column chosen ∷ dimensions_from (column + 1) rest
+dimensions_from first ranges = map (λ placed. dimension_of placed.0 placed.1) (enumerate_from first ranges)
 
 -- the dimension of each column
-abbrev pub dimensions : Contents → List (Dimension (List Cell) Key)
+abbrev pub dimensions : State → List (Dimension (List Cell) Key)
 dimensions cross = dimensions_from 0 cross.ranges
 
 -- how many rows pass every dimension
-abbrev pub passing : Contents → ℕ
-passing cross = length (selected (dimensions cross) None cross.rows)
+abbrev pub passing_count : State → ℕ
+passing_count cross = length (selected (dimensions cross) None cross.rows)
 
 -- the group of a column's dimension: each of its keys, with how many rows have it and pass every other dimension
-abbrev pub entries : Contents → ℕ → List (Key × ℕ)
-entries cross column = group_entries key_cmp (column_keys column) count (dimensions cross) column cross.rows
+abbrev pub entries_of : State → ℕ → List (Key × ℕ)
+entries_of cross column = group_entries key_cmp (column_keys column) count (dimensions cross) column cross.rows
 
 -- counts as a group gives them
 abbrev pub key_numbers : List (Key × ℕ) → List KeyNumber
 key_numbers counts = map (λ entry. record { key = entry.0; number = pos entry.1 }) counts
 
 -- how many rows a new range moves in a column's dimension
-abbrev pub moved_count : Contents → ℕ → Range → ℕ
+abbrev pub moved_count : State → ℕ → Range → ℕ
 moved_count cross column new =
     moved (column_keys column) (filter_of (slice_index_or cross.ranges column None)) (filter_of (Some new)) cross.rows
 
--- what is true of every crossfilter: there are at most 32 columns, all of them of numbers, and the rows are theirs
+-- what is true of every crossfilter: there are few enough columns, all of them of numbers, and the rows are theirs
 pub record IsCross (columns : List Column) (rows : List (List Cell)) : Type 0 where
-  pub few : length columns ≤ 32
+  pub few : length columns ≤ DIMENSIONS
   pub all_int : AllByRecursion IsInt columns
   pub of_schema : AllByRecursion (IsRowOf columns) rows

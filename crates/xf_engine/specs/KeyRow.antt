@@ -1,4 +1,5 @@
--- The rows of a table as a group sees them: each row's number, and whether the row passes the other dimensions.
+-- Only proofs need this file: the rows of a table as a group sees them, each with its number and whether it passes the
+-- other dimensions.
 use Rattle.std.specs.Prelude.{ℕ, ℤ, Bool, ◌&&◌, List, [], ◌∷◌, Option, Some, None, slice_get, flat_map, map, count_by}
 use Rattle.std.specs.Ordering.{int_cmp, int_eq}
 use Rattle.xf_base.specs.declared.cell.Cell.{Cell}

@@ -1,2 +1,2 @@
 pub mod Cross
-pub mod Keyed
+pub mod KeyRow

@@ -1,28 +1,34 @@
-//! The crossfilter.
+//! The crossfilter. What is kept: the records, in the table, and the range that is set on each column's dimension.
+//! What is computed each time that it is asked for, from these alone: how many records pass, what a new range moves,
+//! and the entries of a group. So nothing that is kept can fall behind.
 ghost use Rattle.std.specs.Prelude.{◌≡◌, ◌+◌, ◌*◌, ◌<◌, ◌≤◌, [], ◌++◌, length, IfOk, OnOk, OnErr, None, Some, replicate, slice_set};
 ghost use Rattle.std.specs.List.{AllByRecursion};
 
-use crate::counters::{moved_count, passing_count};
-use crate::groupings::group_rows;
-use crate::ranges::{KeyNumber, Range};
+use crate::group::group_rows;
+use crate::key_number::KeyNumber;
+use crate::range::Range;
+use crate::selection::{moved_count, passing_count};
 use std::alloc::Global;
 use std::marker::Model;
 use std::sync::ledger::Ledger;
 use xf_base::{Limits, OutOfMemory, RowList, Schema, Steps};
 use xf_table::Table;
 
+/// The most dimensions of a crossfilter.
+const DIMENSIONS: usize = Limits::DIMENSIONS as usize;
+
 /// The records that are present, and the range that is set on the dimension of each column.
 #[derive(Drop)]
 pub struct Cross {
     table: Table,
-    ranges: [Option<Range>; 32],
+    ranges: [Option<Range>; DIMENSIONS],
 }
 
 impl Model for Cross {
     ghost use Rattle.std.specs.Prelude.{length, take};
-    ghost use Rattle.xf_engine.specs.Cross.{Contents, IsCross};
+    ghost use Rattle.xf_engine.specs.Cross.{State, IsCross};
 
-    ghost Value = { Contents };
+    ghost Value = { State };
 
     ghost view = { λ cross. record { columns = cross.table.columns; limits = cross.table.limits; rows = cross.table.rows; ranges = take (length cross.table.columns) cross.ranges } };
 
@@ -31,7 +37,7 @@ impl Model for Cross {
 
 impl Cross {
     ghost use Rattle.xf_base.specs.Schema.{IsRowOf};
-    ghost use Rattle.xf_engine.specs.Cross.{IsInt, entries, key_numbers, moved_count, passing};
+    ghost use Rattle.xf_engine.specs.Cross.{IsInt, entries_of, key_numbers, moved_count, passing_count};
 
     /// A crossfilter without records, with no filter set on any dimension. It takes no memory yet.
     pub fn new(alloc: Global, schema: Schema, limits: Limits) -> Cross
@@ -44,7 +50,7 @@ impl Cross {
     {
         Cross {
             table: Table::new(alloc, schema, limits),
-            ranges: [None; 32],
+            ranges: [None; DIMENSIONS],
         }
     }
 
@@ -93,7 +99,7 @@ impl Cross {
 
     /// How many records pass every dimension.
     pub fn passing_count<L: Ledger>(&self, steps: &mut Steps<L>) -> u64
-        ensures { result ≡ passing self.now }
+        ensures { result ≡ passing_count self.now }
     {
         let columns = self.schema().len();
         passing_count(self.table.rows(steps).as_slice(), &self.ranges[..columns])
@@ -108,7 +114,7 @@ impl Cross {
         steps: &mut Steps<L>,
     ) -> Result<Vec<KeyNumber>, OutOfMemory>
         requires { dimension < length self.now.columns }
-        ensures { IfOk result (λ v. v.items ≡ key_numbers (entries self.now dimension)) }
+        ensures { IfOk result (λ v. v.items ≡ key_numbers (entries_of self.now dimension)) }
     {
         let columns = self.schema().len();
         group_rows(

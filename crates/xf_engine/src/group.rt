@@ -8,8 +8,9 @@ ghost use Rattle.xf_engine.specs.Cross.{column_keys, dimensions_from, key_number
 ghost use Rattle.xf_engine.specs.KeyRow.{counts_of, key_rows};
 ghost use Rattle.xf_model.specs.Group.{count, group_entries};
 
-use crate::counters::{number_at, passes_others};
-use crate::ranges::{KeyNumber, Range};
+use crate::key_number::KeyNumber;
+use crate::range::Range;
+use crate::selection::{number_at, passes_others};
 use std::alloc::Global;
 use xf_base::{Key, OutOfMemory, Row};
 
@@ -90,7 +91,7 @@ pub fn group_rows(
     requires { column < length ranges.now }
     ensures { IfOk result (λ v. v.items ≡ key_numbers (group_entries key_cmp (column_keys column) count (dimensions_from 0 ranges.now) column rows.now)) }
 {
-    let mut key_row_of = collect_key_rows(alloc, rows, ranges, column)?;
-    key_row_of.sort_unstable_by_key(|row| row.key);
-    collect_entries(alloc, &keyed)
+    let mut collected = collect_key_rows(alloc, rows, ranges, column)?;
+    collected.sort_unstable_by_key(|row| row.key);
+    collect_entries(alloc, &collected)
 }

@@ -5,7 +5,7 @@ ghost use Rattle.xf_engine.specs.Cross.{column_keys, dimension_of, dimensions_fr
 ghost use Rattle.xf_model.specs.Dimension.{all_but, passes, passes_each, selected};
 ghost use Rattle.xf_model.specs.Moved.{moved, moved_keys};
 
-use crate::ranges::Range;
+use crate::range::Range;
 use xf_base::{Cell, Row};
 
 /// The number that a row has in a column, where it has one.

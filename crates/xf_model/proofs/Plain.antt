@@ -15,7 +15,7 @@ use Rattle.std.proofs.lemmas.List.Folds.{list_all-append, list_all-map, list_all
 pub list_all_fails : {X Y : Type 0} (test : Y → Bool) (f : X → Y) (xs : List X) (i : ℕ) (d : X) → i < length xs → test (f (get_or xs i d)) ≡ false → list_all test (map f xs) ≡ false
 list_all_fails test f xs i d within fails = list_all-map test f xs ∙ list_all_at (λ x. test (f x)) xs i d within fails
 
--- a test holds of all but one of the images where it holds of those before and of those behind
+-- a test holds of all but one of the images where it holds of those before and of those after
 pub list_all-remove : {X Y : Type 0} (test : Y → Bool) (f : X → Y) (xs : List X) (i : ℕ) → list_all test (remove (map f xs) i) ≡ (list_all test (map f (take i xs)) && list_all test (map f (take (length xs - (i + 1)) (drop (i + 1) xs))))
 list_all-remove test f xs i =
     let rest : take (length xs - (i + 1)) (drop (i + 1) xs) ≡ drop (i + 1) xs = take_all (length xs - (i + 1)) (drop (i + 1) xs) (omega (arith, length-drop (i + 1) xs)) in

@@ -2,4 +2,5 @@ pub mod Dimension
 pub mod Group
 pub mod Moved
 pub mod Replay
+pub mod Laws
 pub mod Plain

@@ -70,7 +70,7 @@ pub(crate) fn passes_all_but(dimensions: &[PlainDimension], but: Option<usize>, 
     }
 }
 
-/// The rows that pass every dimension but the one at the place `but`, in their order. A place behind the last
+/// The rows that pass every dimension but the one at the place `but`, in their order. A place after the last
 /// dimension leaves none out.
 pub fn selected<'a>(
     alloc: Global,

@@ -5,7 +5,7 @@ ghost use Rattle.xf_model.specs.Dimension.{selected};
 ghost use Rattle.xf_model.specs.Group.{distinct_keys, with_key, count, fold_of, group_entries, has_key, whole_value};
 ghost use Rattle.xf_model.specs.Plain.{column_keys, keys_of, key_and_number, plain_dimension};
 
-use crate::dimensions::{PlainDimension, key_of, passes_all_but, passes_each};
+use crate::dimension::{PlainDimension, key_of, passes_all_but, passes_each};
 use std::alloc::{AllocError, Global};
 use std::cmp::Ordering;
 
@@ -30,8 +30,8 @@ fn free_place(keys: &[i64], key: i64) -> Option<usize>
     Some(keys.len())
 }
 
-/// Puts a key at its place among ascending distinct keys, unless it is there already.
-fn with_key(keys: &mut Vec<i64>, key: i64) -> Result<(), AllocError>
+/// Inserts a key at its place among ascending distinct keys, unless it is there already.
+fn insert_key(keys: &mut Vec<i64>, key: i64) -> Result<(), AllocError>
     ensures ok { OnOk result (keys.new.items ≡ with_key int_cmp key keys.old.items) }
     ensures err { OnErr result (keys.new.items ≡ keys.old.items) }
 {
@@ -47,7 +47,7 @@ pub fn distinct_keys(alloc: Global, keys: &[i64]) -> Result<Vec<i64>, AllocError
 {
     let mut found = Vec::new(alloc);
     for key in keys {
-        with_key(&mut found, *key)?;
+        insert_key(&mut found, *key)?;
     }
     Ok(found)
 }

@@ -7,13 +7,13 @@
 //! std alone.
 #![tactic(auto)]
 
-mod dimensions;
-mod groups;
+mod dimension;
+mod group;
 pub mod laws;
-mod movements;
+mod movement;
 #[cfg(test)]
 mod tests;
 
-pub use dimensions::{PlainDimension, PlainRange, passes_each, selected};
-pub use groups::{PlainEntry, distinct_keys, group_entries, whole_count};
-pub use movements::moved;
+pub use dimension::{PlainDimension, PlainRange, passes_each, selected};
+pub use group::{PlainEntry, distinct_keys, group_entries, whole_count};
+pub use movement::moved;

@@ -3,7 +3,7 @@ ghost use Rattle.std.specs.Prelude.{◌≡◌, [], ◌∷◌, map, if◌then◌e
 ghost use Rattle.xf_model.specs.Moved.{moved, moved_keys};
 ghost use Rattle.xf_model.specs.Plain.{column_keys, plain_filter};
 
-use crate::dimensions::{PlainRange, holds, key_of};
+use crate::dimension::{PlainRange, holds, key_of};
 
 /// Whether exactly one of two filters holds for a key.
 fn moves(old: Option<PlainRange>, new: Option<PlainRange>, key: i64) -> bool

@@ -2,7 +2,7 @@
 use Rattle.std.specs.Prelude.{ℕ, ◌-◌, ◌^◌, ◌≤◌, ◌≡◌, List, ◌++◌, length, sum_by, min}
 use Rattle.std.specs.List.{AllByRecursion}
 use Rattle.xf_base.specs.Bounds.{Bounds}
-use Rattle.xf_base.specs.Cell.{text_bytes}
+use Rattle.xf_base.specs.Cell.{row_bytes}
 use Rattle.xf_base.specs.Schema.{IsRowOf}
 use Rattle.xf_base.specs.declared.cell.Cell.{Cell}
 use Rattle.xf_base.specs.declared.column.Column.{Column}
@@ -15,7 +15,7 @@ pub record Contents : Type 0 where
 
 -- the bytes of text of all rows, or the greatest 64-bit number where there are more
 abbrev pub text_of_rows : List (List Cell) → ℕ
-text_of_rows rows = min (sum_by text_bytes rows) (2 ^ 64 - 1)
+text_of_rows rows = min (sum_by row_bytes rows) (2 ^ 64 - 1)
 
 -- the table with more rows at its end
 abbrev pub with_rows : Contents → List (List Cell) → Contents

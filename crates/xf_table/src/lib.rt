@@ -5,10 +5,9 @@
 //! they hold.
 #![tactic(auto)]
 
-mod measures;
-mod tables;
+mod table;
 
-pub use tables::Table;
+pub use table::Table;
 
 #[cfg(test)]
 mod tests;

@@ -1,8 +1,7 @@
-//! The table.
+//! The table: what it keeps, and what it tells of it.
 ghost use Rattle.std.specs.Prelude.{◌≡◌, ◌==◌, ◌+◌, ◌<◌, ◌≤◌, [], length, OnOk, OnErr, slice_get, Some};
 ghost use Rattle.std.specs.List.{AllByRecursion};
 
-use crate::measures::rows_size;
 use std::alloc::Global;
 use std::marker::Model;
 use std::sync::ledger::Ledger;
@@ -52,7 +51,7 @@ impl Table {
         ensures ok { OnOk result (self.new ≡ with_rows self.old rows) }
         ensures err { OnErr result (self.new ≡ self.old) }
     {
-        let text = self.text.saturating_add(rows_size(rows.as_slice()));
+        let text = self.text.saturating_add(rows.text_bytes());
         self.rows.append(rows)?;
         self.text = text;
         Ok(())

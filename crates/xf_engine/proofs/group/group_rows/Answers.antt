@@ -1,6 +1,6 @@
 use Rattle.std.proofs.Common.{rules}
 use Rattle.std.proofs.lemmas.List.Sorted.{answers_always}
-use Rattle.xf_engine.proofs.Entries.{entries_keyed}
+use Rattle.xf_engine.proofs.Entries.{entries-key_rows}
 use Rattle.xf_engine.proofs.Runs.{counts_of-IsPermutation}
 use Rattle.xf_engine.proofs.group.group_rows.Goals as goal
 
@@ -10,5 +10,5 @@ collect_entries-requires c =
 
 pub returns : goal.returns
 returns c =
-    let same = counts_of-IsPermutation c.in_ok-key_row_of.key_row_of.items c.sort_unstable_by_key.new.self.items c.sort_unstable_by_key.ensures.permutation in
-    rw (entries_keyed, ← c.in_ok-key_row_of.ensures, same, ← c.deref.ensures.value) c.collect_entries.ensures
+    let same = counts_of-IsPermutation c.in_ok-collected.collected.items c.sort_unstable_by_key.new.self.items c.sort_unstable_by_key.ensures.permutation in
+    rw (entries-key_rows, ← c.in_ok-collected.ensures, same, ← c.deref.ensures.value) c.collect_entries.ensures

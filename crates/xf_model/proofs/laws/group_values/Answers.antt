@@ -1,9 +1,14 @@
 -- Each clause is a lemma on the values of groups.
+use Rattle.std.proofs.Common.{None}
+use Rattle.xf_model.specs.Dimension.{selected}
 use Rattle.xf_model.proofs.GroupValues.{fold_of-count, keys-group_entries, group_entries-insert}
 use Rattle.xf_model.proofs.laws.group_values.Goals as goal
 
 pub returns-clause-counted : goal.returns-clause-counted
 returns-clause-counted g c = λ rows. fold_of-count rows
+
+pub returns-clause-whole_counted : goal.returns-clause-whole_counted
+returns-clause-whole_counted g c = λ dimensions rows. fold_of-count (selected dimensions None rows)
 
 pub returns-clause-keys_stand : goal.returns-clause-keys_stand
 returns-clause-keys_stand g c = λ cmp keys reducer dimensions own rows. keys-group_entries cmp keys reducer dimensions own rows

@@ -1,9 +1,9 @@
 -- Each clause is a lemma on sessions.
-use Rattle.xf_model.proofs.ReplayedLines.{session_text-append, refusals-le-steps}
+use Rattle.xf_model.proofs.ReplayedLines.{session_text-append, refusals-le-number}
 use Rattle.xf_model.proofs.laws.replayed_lines.Goals as goal
 
 pub returns-clause-begun : goal.returns-clause-begun
 returns-clause-begun g c = λ command view state xs ys. session_text-append command view state xs ys
 
 pub returns-clause-refusals : goal.returns-clause-refusals
-returns-clause-refusals g c = λ command view state lines. refusals-le-steps command view state lines
+returns-clause-refusals g c = λ command view state lines. refusals-le-number command view state lines

@@ -1,0 +1,148 @@
+-- Laws of the definitions, for rows, keys and values of every type. `laws` in src/ carries each as a clause.
+use Rattle.std.specs.Prelude.{◌≡◌, ℕ, ◌≤◌, ◌+◌, ◌++◌, Bool, true, List, Option, None, Some, All, Contains, filter, fold, insert, length, map}
+use Rattle.std.specs.Cmp.{IsTotalOrder}
+use Rattle.std.specs.FinMap.{IsAntisymmetric}
+use Rattle.std.specs.List.{list_all, list_any}
+use Rattle.std.specs.List.Sorted.{IsStrictlySortedBy, IsPermutation}
+use Rattle.std.specs.Ordering.{is_eq}
+use Rattle.std.specs.declared.cmp.Ordering.{Ordering}
+use Rattle.xf_model.specs.Dimension.{Dimension, Filter, passes, selected}
+use Rattle.xf_model.specs.Group.{Reducer, distinct_keys, count, fold_of, group_entries, group_keys, whole_value}
+use Rattle.xf_model.specs.Moved.{moved}
+use Rattle.xf_model.specs.Replay.{Outcome, progress_after, replay, session_text}
+
+-- whether a key ties with one of a list
+abbrev pub is_among : {Key : Type 0} → (Key → Key → Ordering) → List Key → Key → Bool
+is_among cmp keys key = list_any (λ own. is_eq (cmp key own)) keys
+
+-- ---- the distinct keys of a list
+
+-- they ascend strictly
+abbrev pub KeysAscend : Type 0 → Type 0
+KeysAscend Key = (cmp : Key → Key → Ordering) (keys : List Key) → IsTotalOrder cmp → IsStrictlySortedBy cmp (distinct_keys cmp keys)
+
+-- a key ties with one of them where it ties with one of the list
+abbrev pub TiesStay : Type 0 → Type 0
+TiesStay Key = (cmp : Key → Key → Ordering) (keys : List Key) (key : Key) → IsTotalOrder cmp → is_among cmp (distinct_keys cmp keys) key ≡ is_among cmp keys key
+
+-- each of them is in the list
+abbrev pub KeysAreMembers : Type 0 → Type 0
+KeysAreMembers Key = (cmp : Key → Key → Ordering) (keys : List Key) → All (Contains keys) (distinct_keys cmp keys)
+
+-- no other strictly ascending keys tie as those of the list do
+abbrev pub KeysAreUnique : Type 0 → Type 0
+KeysAreUnique Key =
+    (cmp : Key → Key → Ordering) (keys found : List Key) → IsTotalOrder cmp → IsAntisymmetric cmp → IsStrictlySortedBy cmp found
+    → ((key : Key) → is_among cmp found key ≡ is_among cmp keys key) → found ≡ distinct_keys cmp keys
+
+-- strictly ascending keys are their own
+abbrev pub AscendingKeysStay : Type 0 → Type 0
+AscendingKeysStay Key = (cmp : Key → Key → Ordering) (keys : List Key) → IsStrictlySortedBy cmp keys → distinct_keys cmp keys ≡ keys
+
+-- the order of the list does not matter
+abbrev pub KeysAreOrderFree : Type 0 → Type 0
+KeysAreOrderFree Key =
+    (cmp : Key → Key → Ordering) (keys others : List Key) → IsTotalOrder cmp → IsAntisymmetric cmp → IsPermutation keys others
+    → distinct_keys cmp keys ≡ distinct_keys cmp others
+
+-- those of joined lists are those of both lists' own
+abbrev pub KeysJoin : Type 0 → Type 0
+KeysJoin Key =
+    (cmp : Key → Key → Ordering) (xs ys : List Key) → IsTotalOrder cmp → IsAntisymmetric cmp
+    → distinct_keys cmp (xs ++ ys) ≡ distinct_keys cmp (distinct_keys cmp xs ++ distinct_keys cmp ys)
+
+-- what embeds one order into another takes them along
+abbrev pub KeysEmbed : Type 0 → Type 0 → Type 0
+KeysEmbed Key Other =
+    (cmp : Key → Key → Ordering) (other : Other → Other → Ordering) (f : Key → Other) (keys : List Key) → ((a b : Key) → other (f a) (f b) ≡ cmp a b)
+    → distinct_keys other (map f keys) ≡ map f (distinct_keys cmp keys)
+
+-- ---- selected rows
+
+-- rows that are joined are selected each by itself
+abbrev pub SelectedJoin : Type 0 → Type 0 → Type 0
+SelectedJoin Row Key =
+    (dimensions : List (Dimension Row Key)) (but : Option ℕ) (xs ys : List Row)
+    → selected dimensions but (xs ++ ys) ≡ selected dimensions but xs ++ selected dimensions but ys
+
+-- where no filter is set all rows are selected
+abbrev pub UnfilteredSelectAll : Type 0 → Type 0 → Type 0
+UnfilteredSelectAll Row Key =
+    (dimensions : List (Dimension Row Key)) (but : Option ℕ) (rows : List Row) → list_all (λ dimension. dimension.chosen.is_all) dimensions ≡ true
+    → selected dimensions but rows ≡ rows
+
+-- what is selected but for one dimension does not see that dimension
+abbrev pub OwnFilterIsUnseen : Type 0 → Type 0 → Type 0
+OwnFilterIsUnseen Row Key =
+    (dimensions : List (Dimension Row Key)) (own : ℕ) (dimension : Dimension Row Key) (rows : List Row) → own ≤ length dimensions
+    → selected (insert dimensions own dimension) (Some own) rows ≡ selected dimensions None rows
+
+-- those of it that pass the dimension are the selected rows
+abbrev pub OneMorePasses : Type 0 → Type 0 → Type 0
+OneMorePasses Row Key =
+    (dimensions : List (Dimension Row Key)) (own : ℕ) (dimension : Dimension Row Key) (rows : List Row) → own ≤ length dimensions
+    → selected (insert dimensions own dimension) None rows ≡ filter (passes dimension) (selected (insert dimensions own dimension) (Some own) rows)
+
+-- ---- groups and wholes
+
+-- the count of rows is their number
+abbrev pub CountIsLength : Type 0 → Type 0
+CountIsLength Row = (rows : List Row) → fold_of count rows ≡ length rows
+
+-- the whole that counts is the number of the selected rows
+abbrev pub WholeCounts : Type 0 → Type 0 → Type 0
+WholeCounts Row Key = (dimensions : List (Dimension Row Key)) (rows : List Row) → whole_value count dimensions rows ≡ length (selected dimensions None rows)
+
+-- a fold over joined rows goes on from the fold over the first
+abbrev pub FoldsJoin : Type 0 → Type 0 → Type 0
+FoldsJoin Row Value = (reducer : Reducer Row Value) (xs ys : List Row) → fold_of reducer (xs ++ ys) ≡ fold reducer.step (fold_of reducer xs) ys
+
+-- a group's keys are those of the rows, whatever the filters
+abbrev pub KeysStand : Type 0 → Type 0 → Type 0 → Type 0
+KeysStand Row Key Value =
+    (cmp : Key → Key → Ordering) (keys : Row → List Key) (reducer : Reducer Row Value) (dimensions : List (Dimension Row Key)) (own : ℕ) (rows : List Row)
+    → map (λ (entry : Key × Value). entry.0) (group_entries cmp keys reducer dimensions own rows) ≡ group_keys cmp keys rows
+
+-- a group's entries do not see its own dimension's filter
+abbrev pub EntriesLeaveOwnOut : Type 0 → Type 0 → Type 0 → Type 0
+EntriesLeaveOwnOut Row Key Value =
+    (cmp : Key → Key → Ordering) (keys : Row → List Key) (reducer : Reducer Row Value) (dimensions : List (Dimension Row Key)) (own : ℕ)
+    (one other : Dimension Row Key) (rows : List Row) → own ≤ length dimensions
+    → group_entries cmp keys reducer (insert dimensions own one) own rows ≡ group_entries cmp keys reducer (insert dimensions own other) own rows
+
+-- ---- what moves
+
+-- a filter in its own place moves nothing
+abbrev pub SameMovesNothing : Type 0 → Type 0 → Type 0
+SameMovesNothing Row Key = (keys : Row → List Key) (chosen : Filter Key) (rows : List Row) → moved keys chosen chosen rows ≡ 0
+
+-- as much moves the other way round
+abbrev pub MovesEitherWay : Type 0 → Type 0 → Type 0
+MovesEitherWay Row Key = (keys : Row → List Key) (one other : Filter Key) (rows : List Row) → moved keys one other rows ≡ moved keys other one rows
+
+-- of joined rows there moves what moves of each
+abbrev pub MovesJoin : Type 0 → Type 0 → Type 0
+MovesJoin Row Key =
+    (keys : Row → List Key) (old new : Filter Key) (xs ys : List Row)
+    → moved keys old new (xs ++ ys) ≡ moved keys old new xs + moved keys old new ys
+
+-- ---- sessions
+
+-- a session goes on from where its first lines have brought it
+abbrev pub ReplayGoesOn : Type 0 → Type 0 → Type 0
+ReplayGoesOn State Line =
+    (command : State → Line → Outcome State) (view : State → List ℕ) (state : State) (xs ys : List Line)
+    → replay command view state (xs ++ ys)
+    ≡ fold (λ so_far line. progress_after view so_far (command so_far.state line)) (replay command view state xs) ys
+
+-- the text of its first lines begins the text of all
+abbrev pub TextBegins : Type 0 → Type 0 → Type 0
+TextBegins State Line =
+    (command : State → Line → Outcome State) (view : State → List ℕ) (state : State) (xs ys : List Line)
+    → (rest : List ℕ) × (session_text command view state (xs ++ ys) ≡ session_text command view state xs ++ rest)
+
+-- no more steps are refused than there are
+abbrev pub FewAreRefused : Type 0 → Type 0 → Type 0
+FewAreRefused State Line =
+    (command : State → Line → Outcome State) (view : State → List ℕ) (state : State) (lines : List Line)
+    → (replay command view state lines).refusals ≤ (replay command view state lines).number
