@@ -5,7 +5,7 @@ use Rattle.std.specs.FinMap.{find}
 use Rattle.std.specs.Cmp.{eq_by_cmp_equiv}
 use Rattle.std.specs.Cmp.Lexicographic.{nat_list_cmp_total, texts_ties, pointwise}
 use Rattle.xf_base.specs.Key.{text_cmp}
-use Rattle.xf_outside.specs.Memory.{entries_of}
+use Rattle.xf_outside.specs.Shelf.{entries_of}
 
 -- the file at a place, of the name `own`, is found where the names are one, and else a file behind it
 pub found_at : (files : List (List ℕ × Vec ℕ Global)) (i : ℕ) (file : List ℕ × Vec ℕ Global) (name own : List ℕ) (same : Bool) → i < length files → file ≡ get_or files i file → own ≡ file.0 → same ≡ pointwise nat_eq own name → find text_cmp name (entries_of (drop i files)) ≡ cond same (Some file.1.items) (find text_cmp name (entries_of (drop (i + 1) files)))

@@ -1,3 +1,6 @@
-pub mod Appended
-pub mod Counts
-pub mod Memory
+pub mod Account
+pub mod Count
+pub mod Fetch
+pub mod Prefix
+pub mod Shelf
+pub mod Tape

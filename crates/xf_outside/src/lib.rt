@@ -6,19 +6,19 @@
 //! gave, within the limit, and each failure is counted.
 #![tactic(auto)]
 
-mod depots;
-mod file_depots;
-mod memory_depots;
-mod memory_sinks;
-mod sinks;
-mod std_sinks;
+mod depot;
+mod file_depot;
+mod memory_depot;
+mod memory_sink;
+mod sink;
+mod std_sink;
 
-pub use depots::{Depot, FetchFault};
-pub use file_depots::FileDepot;
-pub use memory_depots::MemoryDepot;
-pub use memory_sinks::MemorySink;
-pub use sinks::{PutFault, Sink};
-pub use std_sinks::StdSink;
+pub use depot::{Depot, FetchFault};
+pub use file_depot::FileDepot;
+pub use memory_depot::MemoryDepot;
+pub use memory_sink::MemorySink;
+pub use sink::{PutFault, Sink};
+pub use std_sink::StdSink;
 
 #[cfg(test)]
 mod tests;

@@ -1,10 +1,10 @@
 //! A sink over the standard output.
 ghost use Rattle.std.specs.Prelude.{◌≡◌, ℕ, ◌≤◌, ◌++◌, List, None, OnOk, OnErr, IsOkUnless};
 ghost use Rattle.std.specs.Io.KnownBytes.{Appends};
-ghost use Rattle.xf_outside.specs.Appended.{AppendsKnownPrefix};
-ghost use Rattle.xf_outside.specs.Counts.{counted};
+ghost use Rattle.xf_outside.specs.Count.{count_after};
+ghost use Rattle.xf_outside.specs.Prefix.{AppendsKnownPrefix};
 
-use crate::sinks::{PutFault, Sink};
+use crate::sink::{PutFault, Sink};
 use std::io;
 use std::io::Write;
 use std::marker::Model;
@@ -34,14 +34,11 @@ impl<R> StdSink<R> {
 }
 
 impl<R: Print> Sink for StdSink<R> {
-    ghost bytes = { λ _. None };
-
-    ghost faults = { λ faults. faults };
+    ghost account = { λ faults. record { bytes = None; faults = faults } };
 
     fn put(&mut self, text: &[u8]) -> Result<(), PutFault>
-        ensures faults_stay { self.old ≤ self.new }
         ensures ok { OnOk result (self.new ≡ self.old) }
-        ensures err { OnErr result (self.new ≡ counted self.old 1) }
+        ensures err { OnErr result (self.new ≡ count_after self.old 1) }
         ensures failed { IsOkUnless result PutFault.Failed }
     {
         let written = write_whole(&mut io::writer(&self.rt), text);

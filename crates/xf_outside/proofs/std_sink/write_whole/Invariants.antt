@@ -1,7 +1,7 @@
 -- What was written so far and what is left are the text.
 use Rattle.std.proofs.Common.{◌≡◌, ℕ, List, ◌++◌, length}
 use Rattle.std.specs.Io.KnownBytes.{Appends}
-use Rattle.xf_outside.proofs.std_sinks.write_whole.Given as goal
+use Rattle.xf_outside.proofs.std_sink.write_whole.Given as goal
 
 abbrev pub invariant-loop-rest : goal.invariant-loop-rest
 invariant-loop-rest g l =

@@ -1,7 +1,7 @@
 -- What a read gave stands behind what was read before.
 use Rattle.std.proofs.Common.{◌≡◌, ◌+◌, ◌++◌, take, drop, length, ap, ◌∙◌, arith, length-append, length-take-le}
 use Rattle.xf_outside.proofs.Known.{Consumes-none, Consumes-append, Consumes-beyond, Consumes-empty, written-back}
-use Rattle.xf_outside.proofs.file_depots.read_whole.Goals as goal
+use Rattle.xf_outside.proofs.file_depot.read_whole.Goals as goal
 
 pub loop-bytes-init : goal.loop-bytes-init
 loop-bytes-init g c =

@@ -2,9 +2,9 @@
 ghost use Rattle.std.specs.Prelude.{◌≡◌, ◌≢◌, ℕ, ◌+◌, ◌<◌, ◌≤◌, ◌↔◌, None, length, take, OnOk, IfOk, IfSome, IsErrOf, IsOkUnless};
 ghost use Rattle.std.specs.Io.KnownBytes.{Consumes, IsAtEnd};
 ghost use Rattle.std.specs.IoError.{error_kind};
-ghost use Rattle.xf_outside.specs.Counts.{Rose};
+ghost use Rattle.xf_outside.specs.Count.{Rose};
 
-use crate::depots::{Depot, FetchFault};
+use crate::depot::{Depot, FetchFault};
 use std::alloc::{AllocError, Global};
 use std::io::{ErrorKind, Read};
 use std::marker::Model;
@@ -24,9 +24,9 @@ pub struct FileDepot<R> {
 }
 
 impl<R> Model for FileDepot<R> {
-    ghost use Rattle.xf_outside.specs.Counts.{Fetches};
+    ghost use Rattle.xf_outside.specs.Fetch.{FetchCounts};
 
-    ghost Value = { Fetches };
+    ghost Value = { FetchCounts };
 
     ghost view = { λ depot. record { faults = depot.faults; misses = depot.misses; taken = depot.taken } };
 }
@@ -47,19 +47,12 @@ impl<R> FileDepot<R> {
 }
 
 impl<R: Files> Depot for FileDepot<R> {
-    ghost use Rattle.xf_outside.specs.Counts.{after_fetch};
+    ghost use Rattle.xf_outside.specs.Fetch.{counts_after, untold_account};
 
-    ghost files = { λ _. None };
-
-    ghost faults = { λ depot. depot.faults };
-
-    ghost misses = { λ depot. depot.misses };
-
-    ghost taken = { λ depot. depot.taken };
+    ghost account = { untold_account };
 
     fn fetch(&mut self, alloc: Global, name: &str, limit: u64) -> Result<Vec<u8>, FetchFault>
-        ensures counts { self.new ≡ after_fetch self.old self.new.taken result }
-        ensures faults_stay { self.old.faults ≤ self.new.faults }
+        ensures counts { self.new ≡ counts_after result self.old self.new.taken }
         ensures misses_stay { self.old.misses ≤ self.new.misses }
         ensures taken_stay { self.old.taken ≤ self.new.taken }
 

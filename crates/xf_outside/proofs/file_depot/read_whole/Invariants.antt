@@ -1,8 +1,8 @@
 -- What was read so far is there, and was counted; at most one byte is beyond the limit.
 use Rattle.std.proofs.Common.{◌+◌, ◌-◌, ◌<◌, ◌≤◌, length}
 use Rattle.std.specs.Io.KnownBytes.{Consumes}
-use Rattle.xf_outside.specs.Counts.{Rose}
-use Rattle.xf_outside.proofs.file_depots.read_whole.Given as goal
+use Rattle.xf_outside.specs.Count.{Rose}
+use Rattle.xf_outside.proofs.file_depot.read_whole.Given as goal
 
 abbrev pub invariant-loop-bytes : goal.invariant-loop-bytes
 invariant-loop-bytes g l =

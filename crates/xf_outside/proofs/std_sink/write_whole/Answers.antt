@@ -1,7 +1,7 @@
 -- What the write took is part of what was written.
 use Rattle.std.proofs.Common.{◌++◌, take, refl}
 use Rattle.xf_outside.proofs.Known.{Appends-append, text-moved}
-use Rattle.xf_outside.proofs.std_sinks.write_whole.Goals as goal
+use Rattle.xf_outside.proofs.std_sink.write_whole.Goals as goal
 
 pub loop-rest-preserved : goal.loop-rest-preserved
 loop-rest-preserved g c = (

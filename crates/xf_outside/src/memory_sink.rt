@@ -1,10 +1,10 @@
 //! A sink in memory.
 ghost use Rattle.std.specs.Prelude.{◌≡◌, ℕ, ◌+◌, ◌≤◌, ◌++◌, [], List, Option, Some, option_map, take, OnOk, OnErr, IsNone, IsSomeAnd, IsErrOf};
-ghost use Rattle.xf_outside.specs.Appended.{AppendsPrefix};
-ghost use Rattle.xf_outside.specs.Counts.{counted, Rose};
-ghost use Rattle.xf_outside.specs.Memory.{cut_of};
+ghost use Rattle.xf_outside.specs.Count.{FaultsAfterPut, count_after};
+ghost use Rattle.xf_outside.specs.Prefix.{AppendsPrefix};
+ghost use Rattle.xf_outside.specs.Tape.{cut_of};
 
-use crate::sinks::{PutFault, Sink};
+use crate::sink::{PutFault, Sink};
 use std::alloc::Global;
 use std::marker::Model;
 
@@ -18,7 +18,7 @@ pub struct MemorySink {
 }
 
 impl Model for MemorySink {
-    ghost use Rattle.xf_outside.specs.Memory.{Tape};
+    ghost use Rattle.xf_outside.specs.Tape.{Tape};
 
     ghost Value = { Tape };
 
@@ -48,24 +48,23 @@ impl MemorySink {
 }
 
 impl Sink for MemorySink {
-    ghost bytes = { λ sink. Some sink.bytes };
+    ghost use Rattle.xf_outside.specs.Tape.{tape_account};
 
-    ghost faults = { λ sink. sink.faults };
+    ghost account = { tape_account };
 
     fn put(&mut self, text: &[u8]) -> Result<(), PutFault>
-        ensures faults_stay { self.old.faults ≤ self.new.faults }
         ensures put { OnOk result (self.new.bytes ≡ self.old.bytes ++ text.now) }
         ensures partly { OnErr result (AppendsPrefix (Some self.old.bytes) (Some self.new.bytes) text.now) }
-        ensures failed { IsErrOf result PutFault.Failed → Rose self.old.faults self.new.faults 1 }
+        ensures faults { FaultsAfterPut result self.old.faults self.new.faults }
 
         // The calls fail that were told to, and keep what they were told to.
-        ensures whole { OnOk result (IsNone (cut_of self.old.failing (counted self.old.calls 1))) }
-        ensures cut { IsErrOf result PutFault.Failed → IsSomeAnd (cut_of self.old.failing (counted self.old.calls 1)) (λ kept. self.new ≡ record self.old { bytes = self.old.bytes ++ take kept text.now; calls = counted self.old.calls 1; faults = counted self.old.faults 1 }) }
+        ensures whole { OnOk result (IsNone (cut_of self.old.failing (count_after self.old.calls 1))) }
+        ensures cut { IsErrOf result PutFault.Failed → IsSomeAnd (cut_of self.old.failing (count_after self.old.calls 1)) (λ kept. self.new ≡ record self.old { bytes = self.old.bytes ++ take kept text.now; calls = count_after self.old.calls 1; faults = count_after self.old.faults 1 }) }
         ensures never_fails { self.old.failing ≡ [] → self.new.faults ≡ self.old.faults }
 
         // What the other outcomes change.
-        ensures ok { OnOk result (self.new ≡ record self.old { bytes = self.old.bytes ++ text.now; calls = counted self.old.calls 1 }) }
-        ensures memory { IsErrOf result PutFault.OutOfMemory → self.new ≡ record self.old { calls = counted self.old.calls 1 } }
+        ensures ok { OnOk result (self.new ≡ record self.old { bytes = self.old.bytes ++ text.now; calls = count_after self.old.calls 1 }) }
+        ensures memory { IsErrOf result PutFault.OutOfMemory → self.new ≡ record self.old { calls = count_after self.old.calls 1 } }
     {
         self.calls = self.calls.saturating_add(1);
         match find_cut(self.failing.as_slice(), self.calls) {

@@ -1,10 +1,10 @@
 //! A depot in memory.
 ghost use Rattle.std.specs.Prelude.{◌≡◌, ℕ, ◌+◌, ◌<◌, ◌≤◌, ◌↔◌, [], List, length, Option, Some, option_copied, Contains, IfOk, IfSome, IsSomeAnd, IsErrOf, IsOkUnless, IfErr};
 ghost use Rattle.std.specs.FinMap as map;
-ghost use Rattle.xf_outside.specs.Counts.{counted, Rose};
-ghost use Rattle.xf_outside.specs.Memory.{entries_of, file_map};
+ghost use Rattle.xf_outside.specs.Count.{FaultsAfterFetch, Rose, count_after};
+ghost use Rattle.xf_outside.specs.Shelf.{entries_of, file_map};
 
-use crate::depots::{Depot, FetchFault};
+use crate::depot::{Depot, FetchFault};
 use std::alloc::Global;
 use std::marker::Model;
 use xf_base::Text;
@@ -21,7 +21,7 @@ pub struct MemoryDepot {
 }
 
 impl Model for MemoryDepot {
-    ghost use Rattle.xf_outside.specs.Memory.{Shelf, entries_of};
+    ghost use Rattle.xf_outside.specs.Shelf.{Shelf, entries_of};
 
     ghost Value = { Shelf };
 
@@ -46,34 +46,28 @@ impl MemoryDepot {
 }
 
 impl Depot for MemoryDepot {
-    ghost use Rattle.xf_outside.specs.Memory.{after_fault};
+    ghost use Rattle.xf_outside.specs.Shelf.{after_fault, shelf_account};
 
-    ghost files = { λ depot. Some (file_map depot.files) };
-
-    ghost faults = { λ depot. depot.faults };
-
-    ghost misses = { λ depot. depot.misses };
-
-    ghost taken = { λ depot. depot.taken };
+    ghost account = { shelf_account };
 
     fn fetch(&mut self, alloc: Global, name: &str, limit: u64) -> Result<Vec<u8>, FetchFault>
         ensures tells { self.new.files ≡ self.old.files }
-        ensures faults_stay { self.old.faults ≤ self.new.faults }
         ensures misses_stay { self.old.misses ≤ self.new.misses }
         ensures taken_stay { self.old.taken ≤ self.new.taken }
+        ensures faults { FaultsAfterFetch result self.old.faults self.new.faults }
 
         ensures fetched { IfOk result (λ bytes. (length bytes.items ≤ limit) × (map.get (file_map self.old.files) name.now ≡ Some bytes.items)) }
         ensures absent { IsErrOf result FetchFault.Absent → Rose self.old.misses self.new.misses 1 × (map.get (file_map self.old.files) name.now ≡ None) }
-        ensures too_long { IsErrOf result FetchFault.TooLong → Rose self.old.taken self.new.taken (limit + 1) × IsSomeAnd (map.get (file_map self.old.files) name.now) (λ bytes. limit < length bytes) }
-        ensures failed { IsErrOf result FetchFault.Failed → Rose self.old.faults self.new.faults 1 }
+        ensures too_long { IsErrOf result FetchFault.TooLong → Rose self.old.taken self.new.taken (limit + 1)
+            × IsSomeAnd (map.get (file_map self.old.files) name.now) (λ bytes. limit < length bytes) }
 
         // The calls fail that were told to, and no others.
-        ensures failing { IsErrOf result FetchFault.Failed ↔ Contains self.old.failing (counted self.old.calls 1) }
+        ensures failing { IsErrOf result FetchFault.Failed ↔ Contains self.old.failing (count_after self.old.calls 1) }
         ensures never_fails { self.old.failing ≡ [] → self.new.faults ≡ self.old.faults }
-        ensures found { IsSomeAnd (map.get (file_map self.old.files) name.now) (λ bytes. length bytes ≤ limit) → ¬ (Contains self.old.failing (counted self.old.calls 1)) → IsOkUnless result FetchFault.OutOfMemory }
+        ensures found { IsSomeAnd (map.get (file_map self.old.files) name.now) (λ bytes. length bytes ≤ limit) → ¬ (Contains self.old.failing (count_after self.old.calls 1)) → IsOkUnless result FetchFault.OutOfMemory }
 
         // What each outcome changes.
-        ensures ok { IfOk result (λ bytes. self.new ≡ record self.old { calls = counted self.old.calls 1; taken = counted self.old.taken (length bytes.items) }) }
+        ensures ok { IfOk result (λ bytes. self.new ≡ record self.old { calls = count_after self.old.calls 1; taken = count_after self.old.taken (length bytes.items) }) }
         ensures err { IfErr result (λ fault. self.new ≡ after_fault self.old limit fault) }
     {
         self.calls = self.calls.saturating_add(1);

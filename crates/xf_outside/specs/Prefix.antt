@@ -1,8 +1,8 @@
--- What an error leaves behind.
+-- A first part of a text.
 use Rattle.std.specs.Prelude.{◌≡◌, ℕ, List, ◌++◌, Option, option_map}
 use Rattle.std.specs.Io.KnownBytes.{Appends}
 
--- a first part of the text, and no more, was put behind what stood there, where that is told
+-- a first part of the text, and no more, was put after what stood there, where that is told
 abbrev pub AppendsPrefix : Option (List ℕ) → Option (List ℕ) → List ℕ → Type 0
 AppendsPrefix old new text = (kept : List ℕ) × (rest : List ℕ) × (text ≡ kept ++ rest) × (new ≡ option_map (λ before. before ++ kept) old)
 

@@ -2,9 +2,9 @@
 use Rattle.std.proofs.Common.{sym, ap, ◌∙◌, Some, true, false, arith}
 use Rattle.std.specs.FinMap.{get-from_entries}
 use Rattle.std.specs.Cmp.Lexicographic.{nat_list_cmp_total}
-use Rattle.xf_outside.specs.Memory.{entries_of}
+use Rattle.xf_outside.specs.Shelf.{entries_of}
 use Rattle.xf_outside.proofs.Names.{found_at}
-use Rattle.xf_outside.proofs.memory_depots.find_file.Goals as goal
+use Rattle.xf_outside.proofs.memory_depot.find_file.Goals as goal
 
 pub loop-own-init : goal.loop-own-init
 loop-own-init c = sym (get-from_entries nat_list_cmp_total (entries_of c.args.files.now) c.args.name.now)

@@ -1,7 +1,7 @@
 -- What a failing call keeps is a first part of its text.
 use Rattle.std.proofs.Common.{sym, ap, Some, take, drop}
 use Rattle.std.proofs.lemmas.List.{take-append-drop}
-use Rattle.xf_outside.proofs.memory_sinks.MemorySinkSink.put.Goals as goal
+use Rattle.xf_outside.proofs.memory_sink.MemorySinkSink.put.Goals as goal
 
 pub returns-in_ok-extend_from_slice-in-Some-clause-partly :
     goal.returns-in_ok-extend_from_slice-in-Some-clause-partly
