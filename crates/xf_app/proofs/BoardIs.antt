@@ -1,15 +1,18 @@
 -- What a board that was accepted keeps.
-use Rattle.std.proofs.Common.{◌≡◌, ℕ, ◌+◌, ◌*◌, ◌^◌, ◌≤◌, ◌==◌, ◌&&◌, ◌||◌, not, nat_le, nat_lt, Bool, true, false, cond, ℤ, pos, neg_ℤ, List, [], ◌∷◌, drop, length, map, Option, Some, None, Result, Ok, Err, is_ok, refl, subst, arith, rules, tests}
+use Rattle.std.proofs.Common.{◌≡◌, ◌⊎◌, inl, inr, ℕ, ◌+◌, ◌*◌, ◌^◌, ◌≤◌, ◌==◌, ◌&&◌, ◌||◌, not, nat_le, nat_lt, Bool, true, false, cond, ℤ, pos, neg_ℤ, List, [], ◌∷◌, drop, length, map, Option, Some, None, Result, Ok, Err, is_ok, if◌then◌else◌, refl, sym, ◌∙◌, subst, arith, rules, tests}
 use Rattle.std.proofs.lemmas.Bool.{eqb-true}
 use Rattle.std.proofs.lemmas.Int.{ints}
 use Rattle.std.proofs.lemmas.List.{length-map}
 use Rattle.std.specs.List.{AllByRecursion, after_first, before_first, list_all, list_any}
 use Rattle.std.specs.Char.{is_ascii_digit}
 use Rattle.std.specs.Result.{result_unwrap_or}
-use Rattle.xf_app.specs.Board.{are_new, board_of, board_of_records, first_uneven, int_column, is_number, made, made_even, number_cell, rows_taken, takes_header, takes_records}
-use Rattle.xf_app.specs.Played.{IsBoard}
-use Rattle.xf_app.specs.Records.{records_of}
-use Rattle.xf_app.specs.declared.board.Board.{Board}
+use Rattle.xf_app.specs.Board.{are_new, first_uneven, int_column, is_number, number_cell, rows_taken, takes_header, takes_records}
+use Rattle.xf_app.specs.BoardParts.{IsBoard}
+use Rattle.xf_app.specs.BoardSteps.{even_rows, rows_or_uneven}
+use Rattle.xf_app.specs.declared.board.BoardFault.{BoardFault}
+use Rattle.xf_app.specs.declared.board.BoardFault.TheVariants as fault
+use Rattle.xf_base.specs.declared.column.Column.{Column}
+use Rattle.xf_base.specs.declared.limits.TheConstants.Limits.{DIMENSIONS, ENTRIES, ROWS}
 use Rattle.xf_base.specs.declared.cell.Cell.{Cell}
 use Rattle.xf_base.specs.Schema.{IsCellNumber, IsRowOf}
 use Rattle.xf_base.specs.Fixed.{is_negative, number_of, read_digits, read_sign, units_of, with_sign, without_blanks, without_sign}
@@ -65,13 +68,6 @@ even-step : (b : Bool) (first : ℕ) (rest : Option ℕ) → cond b rest (Some f
 even-step true first rest h = (refl, h)
 even-step false first rest h = cc h
 
--- both were taken, and this is the board
-taken-step : (records_taken header_taken : Bool) (rows : List (List Cell)) (header : List (List ℕ)) (board : Board) → takes_header header ≡ header_taken → made header (cond records_taken (Some rows) None) ≡ Ok board
-    → (records_taken ≡ true) × (header_taken ≡ true) × (record { schema = map int_column header; rows = rows } ≡ board)
-taken-step false header_taken rows header board e h = cc h
-taken-step true true rows header board e h = let g = rw e at h in (refl, refl, cc g)
-taken-step true false rows header board e h = let g = rw e at h in cc g
-
 -- each cell of a row of numbers is a cell of its column
 row-is : (header fields : List (List ℕ)) → length fields ≡ length header → list_all is_number fields ≡ true → IsRowOf (map int_column header) (map number_cell fields)
 row-is [] [] same all = tt
@@ -93,32 +89,47 @@ columns-are : (header : List (List ℕ)) → AllByRecursion IsInt (map int_colum
 columns-are [] = tt
 columns-are (name ∷ header) = (refl, columns-are header)
 
--- what a board that was made of a header and records keeps
-made-is : (header : List (List ℕ)) (records : List (List (List ℕ))) (board : Board) → first_uneven (length header) 1 records ≡ None → made header (rows_taken (length header) records) ≡ Ok board → IsBoard board
-made-is header records board even h =
-    let taken = taken-step (takes_records (length header) records) (takes_header header) (map (λ fields. map number_cell fields) records) header board refl h in
-    let first = and-both (list_all (λ fields. list_all is_number fields) records && nat_le (length records) 1000000) (nat_le (length records * length header) 16000000) taken.0 in
-    let parts = and-both (list_all (λ fields. list_all is_number fields) records) (nat_le (length records) 1000000) first.0 in
-    let names = and-both (nat_le (length header) 32) (are_new [] header) taken.1 in
-    let few : length header ≤ 32 = search (tests, rules, names.0) in
-    let fits : length records ≤ 1000000 = search (tests, rules, parts.1) in
-    let entries : length records * length header ≤ 16000000 = search (tests, rules, first.1) in
-    subst IsBoard taken.2 (record {
+-- what a board that is made of a header and records keeps
+pub parts-are : (header : List (List ℕ)) (records : List (List (List ℕ))) → first_uneven (length header) 1 records ≡ None → takes_header header ≡ true → takes_records (length header) records ≡ true
+    → IsBoard (map int_column header) (map (λ fields. map number_cell fields) records)
+parts-are header records even names_taken rows_are_taken =
+    let first = and-both (list_all (λ fields. list_all is_number fields) records && nat_le (length records) ROWS) (nat_le (length records * length header) ENTRIES) rows_are_taken in
+    let parts = and-both (list_all (λ fields. list_all is_number fields) records) (nat_le (length records) ROWS) first.0 in
+    let names = and-both (nat_le (length header) DIMENSIONS) (are_new [] header) names_taken in
+    let few : length header ≤ DIMENSIONS = search (tests, rules, names.0) in
+    let fits : length records ≤ ROWS = search (tests, rules, parts.1) in
+    let entries : length records * length header ≤ ENTRIES = search (tests, rules, first.1) in
+    record {
       few = simp length-map few;
       all_int = columns-are header;
       fits = simp length-map fits;
       entries = simp length-map entries;
       of_schema = rows-are header 1 records even parts.0;
-    })
+    }
 
--- a file's board
-pub board-is : (bytes : List ℕ) (board : Board) → board_of bytes ≡ Ok board → IsBoard board
-board-is bytes board h = go (records_of bytes) h
-  where
-    even : (header : List (List ℕ)) (records : List (List (List ℕ))) (o : Option ℕ) → first_uneven (length header) 1 records ≡ o → made_even header records o ≡ Ok board → IsBoard board
-    even header records (Some number) e h = cc h
-    even header records None e h = made-is header records board e h
+some_of : {A : Type 0} (taken : Bool) (x y : A) → ◌≡◌ {A = Option A} (Some y) (cond taken (Some x) None) → (taken ≡ true) × (y ≡ x)
+some_of true x y e = (refl, cc)
+some_of false x y e = cc e
 
-    go : (all : List (List (List ℕ))) → board_of_records all ≡ Ok board → IsBoard board
-    go [] h = cc h
-    go (header ∷ records) h = even header records (first_uneven (length header) 1 records) refl h
+ok_rows : (header : List (List ℕ)) (records : List (List (List ℕ))) (uneven : Option ℕ) (rows : List (List Cell)) → first_uneven (length header) 1 records ≡ uneven
+    → ◌≡◌ {A = Result (Option (List (List Cell))) BoardFault} (Ok (Some rows)) (even_rows (length header) records uneven)
+    → (first_uneven (length header) 1 records ≡ None) × (takes_records (length header) records ≡ true) × (rows ≡ map (λ fields. map number_cell fields) records)
+ok_rows header records (Some number) rows e h = cc h
+ok_rows header records None rows e h =
+    let same : ◌≡◌ {A = Option (List (List Cell))} (Some rows) (rows_taken (length header) records) = cc h in
+    let taken = some_of (takes_records (length header) records) (map (λ fields. map number_cell fields) records) rows same in
+    (e, taken.0, taken.1)
+
+-- so columns and rows that were read are those of a board
+pub read-are : (header : List (List ℕ)) (records : List (List (List ℕ))) (columns : List Column) (rows : List (List Cell)) (given : Result (Option (List (List Cell))) BoardFault)
+    → Some columns ≡ (if takes_header header then Some (map int_column header) else None) → given ≡ Ok (Some rows) → given ≡ rows_or_uneven (length header) records
+    → IsBoard columns rows
+read-are header records columns rows given made found is =
+    let names = some_of (takes_header header) (map int_column header) columns made in
+    let below = ok_rows header records (first_uneven (length header) 1 records) rows refl (sym found ∙ is) in
+    rw (names.1, below.2) (parts-are header records below.0 names.0 below.1)
+
+-- rows that were read are what the definition says
+pub not_refused : (read is : Result (Option (List (List Cell))) BoardFault) (rows : Option (List (List Cell))) → read ≡ Ok rows → (read ≡ Err fault.OutOfMemory) ⊎ (read ≡ is) → read ≡ is
+not_refused read is rows ok (inl none) = let clash : ◌≡◌ {A = Result (Option (List (List Cell))) BoardFault} (Ok rows) (Err fault.OutOfMemory) = sym ok ∙ none in cc clash
+not_refused read is rows ok (inr same) = same

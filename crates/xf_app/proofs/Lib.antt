@@ -1,7 +1,8 @@
 pub mod BoardFacts
 pub mod BoardIs
 pub mod CsvRecords
-pub mod ProgramFacts
+pub mod FilterOutcome
+pub mod Put
 pub mod Replayed
+pub mod RunFacts
 pub mod ScriptFacts
-pub mod SessionFacts

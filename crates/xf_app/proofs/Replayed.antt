@@ -1,112 +1,105 @@
 -- How far the replay of a text has come.
-use Rattle.std.proofs.Common.{◌≡◌, ℕ, ◌+◌, ◌<◌, ◌≤◌, List, [], ◌∷◌, ◌++◌, length, Option, Some, None, option_map, codes, fold, refl, sym, ap, ◌∙◌, arith, append_assoc}
-use Rattle.std.proofs.lemmas.List.{append-nil}
+use Rattle.std.proofs.Common.{◌≡◌, ◌==◌, inl, inr, ℕ, ◌+◌, ◌<◌, ◌≤◌, List, [], ◌∷◌, ◌++◌, length, fold, if◌then◌else◌, refl, sym, ap, subst, ◌∙◌, arith}
 use Rattle.std.specs.Str.Lines.{lines}
+use Rattle.xf_app.proofs.Put.{part-more, puts-more, puts-nothing}
+use Rattle.xf_app.specs.Due.{progress_due}
+use Rattle.xf_app.specs.Ends.{Ends, LeadsTo, PutsWhole, StopsIn, line_text}
 use Rattle.xf_app.specs.Page.{data_view}
-use Rattle.xf_app.specs.Played.{Advances, IsAt, LeadsTo, next}
-use Rattle.xf_app.specs.Program.{Wrote}
+use Rattle.xf_app.specs.Put.{Puts, PutsPart}
 use Rattle.xf_app.specs.Session.{command}
-use Rattle.xf_app.specs.declared.program.Tally.{Tally}
-use Rattle.xf_engine.specs.Cross.{Contents}
-use Rattle.xf_model.specs.Replay.{Progress, accepted, after, beginning, refused, replay, skipped, step_line}
+use Rattle.xf_app.specs.declared.replay.Tally.{Tally}
+use Rattle.xf_app.specs.declared.status.Status.{Status}
+use Rattle.xf_app.specs.declared.status.Status.TheVariants as status
+use Rattle.xf_engine.specs.Cross.{State}
+use Rattle.xf_model.proofs.ReplayedLines.{text-fold}
+use Rattle.xf_model.specs.Replay.{Outcome, Progress, accepted, beginning, progress_after, refusal_count, refused, replay, skipped, state_after, step_count}
+use Rattle.xf_outside.specs.Account.{SinkAccount}
+use Rattle.xf_outside.specs.Count.{Rose}
+
+-- the session after one line more
+abbrev pub next : Progress State → List ℕ → Progress State
+next so_far line = progress_after data_view so_far (command so_far.state line)
 
 -- a session that has come so far: it stands at this state and these numbers, with these lines left of those of the
--- whole text, and what it says was put
-pub record SoFar (start : Contents) (text : List ℕ) (state : Contents) (tally : Tally) (rest : List ℕ) (bytes : Option (List ℕ) × Option (List ℕ)) (faults : ℕ × ℕ) : Type 0 where
-  pub progress : Progress Contents
-  pub at : IsAt progress state tally
+-- whole text, and what is written for it was put
+pub record SoFar (start : State) (text : List ℕ) (cross : State) (tally : Tally) (rest : List ℕ) (before now : SinkAccount) : Type 0 where
+  pub progress : Progress State
+  pub stands : progress.state ≡ cross
+  pub number : progress.number ≡ tally.number
+  pub refusals : progress.refusals ≡ tally.refusals
   pub left : fold next progress (lines rest) ≡ replay command data_view start (lines text)
-  pub wrote : Wrote bytes progress.text
-  pub stays : faults.0 ≤ faults.1
-  pub room : tally.steps + length rest ≤ length text
-  pub few : tally.refusals ≤ tally.steps
+  pub put : Puts before now progress.text
+  pub stays : now.faults ≡ before.faults
+  pub room : tally.number + length rest ≤ length text
+  pub few : tally.refusals ≤ tally.number
 
--- nothing was put yet
-pub wrote-nothing : (bytes : Option (List ℕ)) → bytes ≡ option_map (λ before. before ++ []) bytes
-wrote-nothing None = refl
-wrote-nothing (Some before) = ap (λ (text : List ℕ). Some text) (sym (append-nil before))
-
-pub so_far-start : (start : Contents) (text : List ℕ) (bytes : Option (List ℕ)) (faults : ℕ) → SoFar start text start (record { steps = 0; refusals = 0 }) text (bytes, bytes) (faults, faults)
-so_far-start start text bytes faults = record {
+-- the beginning
+pub so_far-start : (start : State) (text : List ℕ) (sink : SinkAccount) → SoFar start text start (record { number = 0; refusals = 0 }) text sink sink
+so_far-start start text sink = record {
   progress = beginning start;
-  at = record {
-    state = refl;
-    steps = refl;
-    refusals = refl;
-  };
+  stands = refl;
+  number = refl;
+  refusals = refl;
   left = refl;
-  wrote = wrote-nothing bytes;
-  stays = omega arith;
+  put = puts-nothing sink;
+  stays = refl;
   room = omega arith;
   few = omega arith;
 }
 
--- two texts put one after the other
-wrote-more : (before now later : Option (List ℕ)) (text more : List ℕ) → now ≡ option_map (λ b. b ++ text) before → later ≡ option_map (λ b. b ++ more) now → later ≡ option_map (λ b. b ++ (text ++ more)) before
-wrote-more None now later text more first second = rw (second, first) refl
-wrote-more (Some b) now later text more first second = rw (second, first) (ap (λ (t : List ℕ). Some t) (append_assoc b text more))
+-- a line is one step at most, and refused at most as one
+step_count-le : (outcome : Outcome State) → (step_count outcome ≤ 1) × (refusal_count outcome ≤ step_count outcome)
+step_count-le skipped = (omega arith, omega arith)
+step_count-le (refused cause) = (omega arith, omega arith)
+step_count-le (accepted state answer) = (omega arith, omega arith)
+
+-- what a line adds, where the session stands at this state and this number
+text-next : (progress : Progress State) (state : State) (tally : Tally) (line : List ℕ) → progress.state ≡ state → progress.number ≡ tally.number
+    → (next progress line).text ≡ progress.text ++ line_text state tally line
+text-next progress state tally line at number = rw (at, number) refl
 
 -- a line more
-pub so_far-more : (start : Contents) (text : List ℕ) (state new : Contents) (tally behind : Tally) (rest line left : List ℕ) (before now later : Option (List ℕ)) (fault count counted : ℕ)
-    → SoFar start text state tally rest (before, now) (fault, count) → lines rest ≡ line ∷ lines left → length left < length rest → Advances state tally line new behind (now, later) → count ≤ counted
-    → SoFar start text new behind left (before, later) (fault, counted)
-so_far-more start text state new tally behind rest line left before now later fault count counted h cut shorter done stays =
-    let leads = done.1 in
+pub so_far-more : (start : State) (text : List ℕ) (state new : State) (tally later : Tally) (rest line left : List ℕ) (before now after : SinkAccount)
+    → SoFar start text state tally rest before now → lines rest ≡ line ∷ lines left → length left < length rest → LeadsTo state tally line new later
+    → PutsWhole (line_text state tally line) now after → SoFar start text new later left before after
+so_far-more start text state new tally later rest line left before now after h cut shorter leads put =
+    let one = step_count-le (command state line) in
     record {
       progress = next h.progress line;
-      at = leads.at h.progress h.at;
+      stands = ap (λ s. state_after s (command s line)) h.stands ∙ sym leads.state;
+      number = ap (λ s. h.progress.number + step_count (command s line)) h.stands ∙ ap (λ n. n + step_count (command state line)) h.number ∙ sym leads.number;
+      refusals = ap (λ s. h.progress.refusals + refusal_count (command s line)) h.stands ∙ ap (λ n. n + refusal_count (command state line)) h.refusals ∙ sym leads.refusals;
       left = ap (fold next h.progress) (sym cut) ∙ h.left;
-      wrote = rw (leads.says h.progress h.at) (wrote-more before now later h.progress.text done.0 h.wrote done.2);
-      stays = omega (arith, h.stays);
-      room = omega (arith, h.room, leads.more);
-      few = leads.few;
+      put = rw (text-next h.progress state tally line h.stands h.number) (puts-more before now after h.progress.text (line_text state tally line) h.put put.0);
+      stays = put.1 ∙ h.stays;
+      room = omega (arith, h.room, leads.number, one.0);
+      few = omega (arith, h.few, leads.number, leads.refusals, one.1);
     }
 
--- a line that is no step leads nowhere
-pub leads-skipped : (old new : Contents) (tally : Tally) (line out : List ℕ) → skipped ≡ command old line → new ≡ old → tally.refusals ≤ tally.steps → LeadsTo old tally line new tally []
-leads-skipped old new tally line out is same few = record {
-  at = λ p at.
-      let e : next p line ≡ p = rw (at.state, ← is) refl in
-      rw (e, same) at;
-  says = λ p at.
-      let e : next p line ≡ p = rw (at.state, ← is) refl in
-      ap (λ (q : Progress Contents). q.text) e ∙ sym (append-nil p.text);
-  more = omega arith;
-  few = few;
-}
+-- a first part of a line's text is a first part of all
+part-line : (start : State) (text : List ℕ) (state : State) (tally : Tally) (rest line left : List ℕ) (before now after : SinkAccount)
+    → SoFar start text state tally rest before now → lines rest ≡ line ∷ lines left → PutsPart now after (line_text state tally line)
+    → PutsPart before after (progress_due (replay command data_view start (lines text))).text
+part-line start text state tally rest line left before now after h cut part =
+    let more = text-fold command data_view (next h.progress line) (lines left) in
+    let whole : (replay command data_view start (lines text)).text ≡ (h.progress.text ++ line_text state tally line) ++ more.0 =
+    ap (λ (p : Progress State). p.text) (sym h.left ∙ ap (fold next h.progress) cut) ∙ more.1 ∙ ap (λ t. t ++ more.0) (text-next h.progress state tally line h.stands h.number) in
+    rw whole (part-more before now after h.progress.text (line_text state tally line) more.0 h.put part)
 
--- a step that is refused adds its cause
-pub leads-refused : (old new : Contents) (steps refusals : ℕ) (line cause : List ℕ) → refused cause ≡ command old line → new ≡ old → refusals ≤ steps
-    → LeadsTo old (record { steps = steps; refusals = refusals }) line new (record { steps = steps + 1; refusals = refusals + 1 }) (step_line (steps + 1) (codes "refused " ++ cause))
-leads-refused old new steps refusals line cause is same few = record {
-  at = λ p at.
-      let e : next p line ≡ after data_view p (refused cause) = rw (at.state, ← is) refl in
-      record {
-        state = ap (λ (q : Progress Contents). q.state) e ∙ at.state ∙ sym same;
-        steps = ap (λ (q : Progress Contents). q.steps) e ∙ ap (λ (n : ℕ). n + 1) at.steps;
-        refusals = ap (λ (q : Progress Contents). q.refusals) e ∙ ap (λ (n : ℕ). n + 1) at.refusals;
-      };
-  says = λ p at.
-      let e : next p line ≡ after data_view p (refused cause) = rw (at.state, ← is) refl in
-      ap (λ (q : Progress Contents). q.text) e ∙ ap (λ (n : ℕ). p.text ++ step_line (n + 1) (codes "refused " ++ cause)) at.steps;
-  more = omega arith;
-  few = omega arith;
-}
+-- a line whose text was not put whole stops the session
+pub stops-line : (start : State) (text : List ℕ) (state : State) (tally : Tally) (rest line left : List ℕ) (before now after : SinkAccount) (got : Status)
+    → SoFar start text state tally rest before now → lines rest ≡ line ∷ lines left → StopsIn (line_text state tally line) now after got
+    → Ends (progress_due (replay command data_view start (lines text))) before after got
+stops-line start text state tally rest line left before now after got h cut stops =
+    elim stops [
+      | inl failed ↦ inr (inl (failed.0, part-line start text state tally rest line left before now after h cut failed.1, subst (λ n. Rose n after.faults 1) h.stays failed.2))
+      | inr memory ↦ inr (inr (memory.0, part-line start text state tally rest line left before now after h cut memory.1, memory.2 ∙ h.stays))
+    ]
 
--- one that is accepted adds its answer and the view of the new state
-pub leads-accepted : (old new : Contents) (steps refusals : ℕ) (line answer : List ℕ) → accepted new answer ≡ command old line → refusals ≤ steps
-    → LeadsTo old (record { steps = steps; refusals = refusals }) line new (record { steps = steps + 1; refusals = refusals }) (step_line (steps + 1) (codes "ok " ++ answer) ++ data_view new)
-leads-accepted old new steps refusals line answer is few = record {
-  at = λ p at.
-      let e : next p line ≡ after data_view p (accepted new answer) = rw (at.state, ← is) refl in
-      record {
-        state = ap (λ (q : Progress Contents). q.state) e;
-        steps = ap (λ (q : Progress Contents). q.steps) e ∙ ap (λ (n : ℕ). n + 1) at.steps;
-        refusals = ap (λ (q : Progress Contents). q.refusals) e ∙ at.refusals;
-      };
-  says = λ p at.
-      let e : next p line ≡ after data_view p (accepted new answer) = rw (at.state, ← is) refl in
-      ap (λ (q : Progress Contents). q.text) e ∙ ap (λ (n : ℕ). p.text ++ (step_line (n + 1) (codes "ok " ++ answer) ++ data_view new)) at.steps;
-  more = omega arith;
-  few = omega arith;
-}
+-- without a line left the session has come to its end
+pub ends-replayed : (start : State) (text : List ℕ) (state : State) (tally : Tally) (rest : List ℕ) (before now : SinkAccount) (got : Status)
+    → SoFar start text state tally rest before now → rest ≡ [] → got ≡ (if tally.refusals == 0 then status.Done else status.DoneWithRefusals)
+    → Ends (progress_due (replay command data_view start (lines text))) before now got
+ends-replayed start text state tally rest before now got h none is =
+    let end : h.progress ≡ replay command data_view start (lines text) = rw none at h.left in
+    inl (rw (← end) (is ∙ ap (λ n. if n == 0 then status.Done else status.DoneWithRefusals) (sym h.refusals)), (rw (← end) h.put, h.stays))

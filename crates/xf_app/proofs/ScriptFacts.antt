@@ -7,7 +7,7 @@ use Rattle.std.proofs.lemmas.List.Splits.{slice_split_none, slice_split_first, l
 use Rattle.std.proofs.lemmas.List.Sums.{fails_before_first}
 use Rattle.std.proofs.lemmas.List.Elements.{All-from_get_or}
 use Rattle.std.proofs.lemmas.Bool.Decides.{nat_tests}
-use Rattle.xf_app.specs.Script.{IsAsciiWord, command_of_words, is_plain, is_space, words_of}
+use Rattle.xf_app.specs.Script.{IsAsciiWord, command_of_words, is_ascii_line, is_space, words_of}
 use Rattle.xf_app.specs.declared.script.Command.TheVariants.{Unknown}
 
 -- whether a byte is a line feed
@@ -60,7 +60,7 @@ pub lines-by_feed : (text : List ℕ) (found : Option ℕ) → found ≡ feed_of
 lines-by_feed text found e some =
     by_feed text (position_or_len is_feed text) (nat_lt (position_or_len is_feed text) (length text)) found refl refl e some
 
--- what stands behind a place is all that is left there
+-- what stands after a place is all that is left there
 pub take-rest : (n : ℕ) (text : List ℕ) → take (length text - n) (drop n text) ≡ drop n text
 take-rest n text = take_all (length text - n) (drop n text) (omega (arith, length-drop n text))
 
@@ -106,8 +106,8 @@ filter-pass keep test [] all = tt
 filter-pass keep test (word ∷ words) all = keep-pass test (keep word) word (filter keep words) all.0 (filter-pass keep test words all.1)
 
 -- a byte of a plain line
-abbrev is_plain_byte : ℕ → Bool
-is_plain_byte byte = nat_lt byte 128 && not (byte == 34)
+abbrev is_line_byte : ℕ → Bool
+is_line_byte byte = nat_lt byte 128 && not (byte == 34)
 
 -- a byte of a plain line is below 128
 below_128 : (byte : ℕ) (a b : Bool) → nat_lt byte 128 ≡ a → (a && b) ≡ true → byte < 128
@@ -115,25 +115,25 @@ below_128 byte true b e h = grind (arith, nat_tests)
 below_128 byte false b e h = cc h
 
 -- and so is each byte of a word of it
-ascii : (word : List ℕ) → list_all is_plain_byte word ≡ true → (i : ℕ) → slice_index word i < 128
+ascii : (word : List ℕ) → list_all is_line_byte word ≡ true → (i : ℕ) → slice_index word i < 128
 ascii [] h i = omega arith
-ascii (byte ∷ word) h zero = below_128 byte (nat_lt byte 128) (not (byte == 34)) refl (both (is_plain_byte byte) (list_all is_plain_byte word) h).0
-ascii (byte ∷ word) h (suc i) = ascii word (both (is_plain_byte byte) (list_all is_plain_byte word) h).1 i
+ascii (byte ∷ word) h zero = below_128 byte (nat_lt byte 128) (not (byte == 34)) refl (both (is_line_byte byte) (list_all is_line_byte word) h).0
+ascii (byte ∷ word) h (suc i) = ascii word (both (is_line_byte byte) (list_all is_line_byte word) h).1 i
 
 -- and of each of its words
-ascii-words : (words : List (List ℕ)) → AllPass is_plain_byte words → AllByRecursion IsAsciiWord words
+ascii-words : (words : List (List ℕ)) → AllPass is_line_byte words → AllByRecursion IsAsciiWord words
 ascii-words [] all = tt
 ascii-words (word ∷ words) all = (ascii word all.0, ascii-words words all.1)
 
 -- the words of a plain line are ASCII
-pub words_of-ascii : (line : List ℕ) → is_plain line ≡ true → AllByRecursion IsAsciiWord (words_of line)
+pub words_of-ascii : (line : List ℕ) → is_ascii_line line ≡ true → AllByRecursion IsAsciiWord (words_of line)
 words_of-ascii line h =
-    let bytes = (both (nat_le (length line) 65536) (list_all is_plain_byte line) h).1 in
-    ascii-words (words_of line) (filter-pass (λ word. not (length word == 0)) is_plain_byte (slice_split is_space line) (split-pass is_space is_plain_byte line bytes))
+    let bytes = (both (nat_le (length line) 65536) (list_all is_line_byte line) h).1 in
+    ascii-words (words_of line) (filter-pass (λ word. not (length word == 0)) is_line_byte (slice_split is_space line) (split-pass is_space is_line_byte line bytes))
 
 -- a line is plain by its bytes where it is short enough
-pub is_plain-short : (line : List ℕ) → length line ≤ 65536 → list_all (λ byte. nat_lt byte 128 && not (byte == 34)) line ≡ is_plain line
-is_plain-short line h =
+pub is_ascii_line-short : (line : List ℕ) → length line ≤ 65536 → list_all (λ byte. nat_lt byte 128 && not (byte == 34)) line ≡ is_ascii_line line
+is_ascii_line-short line h =
     let short : nat_le (length line) 65536 ≡ true = grind (arith, nat_tests) in rw short
 
 -- fewer than five words are not known

@@ -1,16 +1,17 @@
--- What the private steps of reading a board give. No public clause cites these: what a file means is in Board.antt alone.
+-- Only the private steps of reading a board need this file. What a file means is in Board.antt alone.
 use Rattle.std.specs.Prelude.{ℕ, ◌+◌, ◌*◌, nat_le, ◌&&◌, if◌then◌else◌, List, [], ◌∷◌, ◌++◌, length, map, Option, Some, None, Result, Ok, Err}
 use Rattle.std.specs.List.{list_all}
 use Rattle.xf_app.specs.Board.{first_uneven, is_number, number_cell, rows_taken}
 use Rattle.xf_app.specs.declared.board.BoardFault.{BoardFault}
 use Rattle.xf_app.specs.declared.board.BoardFault.TheVariants.{UnevenRecord}
+use Rattle.xf_base.specs.declared.limits.TheConstants.Limits.{ENTRIES, ROWS}
 use Rattle.xf_base.specs.declared.cell.Cell.{Cell}
 
 -- the rows of one record more, as long as all are taken
 abbrev pub rows_after : Option (List (List Cell)) → List (List ℕ) → Option (List (List Cell))
 rows_after None fields = None
 rows_after (Some rows) fields =
-    if nat_le (length rows + 1) 1000000 && nat_le ((length rows + 1) * length fields) 16000000 && list_all is_number fields then Some (rows ++ map number_cell fields ∷ [])
+    if nat_le (length rows + 1) ROWS && nat_le ((length rows + 1) * length fields) ENTRIES && list_all is_number fields then Some (rows ++ map number_cell fields ∷ [])
     else None
 
 -- the rows of the records below a header of this width, unless one is uneven

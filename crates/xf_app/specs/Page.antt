@@ -1,5 +1,6 @@
 -- The data view of a state: its counts, the whole `all`, and the group of each column.
-use Rattle.std.specs.Prelude.{ℕ, ◌+◌, List, [], ◌∷◌, ◌++◌, codes, decimal, flat_map, length}
+use Rattle.std.specs.Prelude.{ℕ, List, [], ◌∷◌, ◌++◌, codes, decimal, flat_map, length}
+use Rattle.std.specs.List.{enumerate_from}
 use Rattle.xf_base.specs.Fixed.{fixed_text}
 use Rattle.xf_base.specs.Word.{word_text}
 use Rattle.xf_base.specs.declared.column.Column.{Column}
@@ -7,7 +8,7 @@ use Rattle.xf_base.specs.declared.key.Atom.{Atom}
 use Rattle.xf_base.specs.declared.key.Atom.TheVariants as atom
 use Rattle.xf_base.specs.declared.key.Key.{Key}
 use Rattle.xf_base.specs.declared.key.Key.TheVariants as key
-use Rattle.xf_engine.specs.Cross.{Contents, entries, key_numbers, passing}
+use Rattle.xf_engine.specs.Cross.{State, entries_of, key_numbers, passing_count, whole_count}
 use Rattle.xf_engine.specs.declared.key_number.KeyNumber.{KeyNumber}
 
 -- a key of whole numbers as text: a number in decimal, a text as it is, a pair with a bar between its parts
@@ -29,16 +30,16 @@ abbrev pub group_lines : List ℕ → List KeyNumber → List ℕ
 group_lines name counts =
     codes "group " ++ word_text name ++ 32 ∷ decimal (length counts) ++ 10 ∷ flat_map entry_line counts
 
--- the groups of the columns from a place on
-abbrev pub groups_from : Contents → ℕ → List Column → List ℕ
-groups_from state place [] = []
-groups_from state place (column ∷ columns) =
-    group_lines column.name (key_numbers (entries state place)) ++ groups_from state (place + 1) columns
+-- the group of each of these columns, which stand at their places
+abbrev pub groups_lines : State → List (ℕ × Column) → List ℕ
+groups_lines state placed = flat_map (λ (at : ℕ × Column). group_lines at.1.name (key_numbers (entries_of state at.0))) placed
 
--- the counts of a state, and its groups
-abbrev pub counts_lines : Contents → List ℕ
+-- the counts of a state: its records, those that pass, and the whole `all`, which counts
+abbrev pub counts_lines : State → List ℕ
 counts_lines state =
-    codes "records " ++ decimal (length state.rows) ++ codes " passing " ++ decimal (passing state) ++ codes "\nwhole all " ++ decimal (passing state) ++ 10 ∷ []
+    codes "records " ++ decimal (length state.rows) ++ codes " passing " ++ decimal (passing_count state)
+    ++ codes "\nwhole all " ++ decimal (whole_count state) ++ 10 ∷ []
 
-abbrev pub data_view : Contents → List ℕ
-data_view state = counts_lines state ++ groups_from state 0 state.columns
+-- the counts of a state, and then the group of each column
+abbrev pub data_view : State → List ℕ
+data_view state = counts_lines state ++ groups_lines state (enumerate_from 0 state.columns)

@@ -3,23 +3,18 @@ use Rattle.std.specs.Prelude.{ℕ, ◌==◌, nat_lt, nat_le, Bool, false, ◌&&�
 use Rattle.std.specs.List.{list_all, slice_split}
 use Rattle.std.specs.Str.{IsAscii, bytes_eq}
 use Rattle.std.specs.Str.Lines.{lines}
+use Rattle.csv.specs.Reading.{strip_bom}
 use Rattle.xf_app.specs.declared.script.Command.{Command}
 use Rattle.xf_app.specs.declared.script.Command.TheVariants.{Skip, Unknown, Filter}
 use Rattle.xf_base.specs.Fixed.{number_of}
+use Rattle.xf_base.specs.declared.limits.TheConstants.Limits.{LINE_BYTES}
 use Rattle.xf_base.specs.declared.fixed.NumberRefusal.{NumberRefusal}
 use Rattle.xf_engine.specs.declared.range.Range.{Range}
 
--- a session's bytes without one byte order mark in front
-abbrev pub without_mark : List ℕ → List ℕ
-without_mark [] = []
-without_mark (a ∷ []) = a ∷ []
-without_mark (a ∷ b ∷ []) = a ∷ b ∷ []
-without_mark (a ∷ b ∷ c ∷ rest) = if (a == 239) && (b == 187) && (c == 191) then rest else a ∷ b ∷ c ∷ rest
-
--- the lines of a session: its bytes are cut at each line feed, a carriage return before one is dropped, and bytes
--- behind the last are a line
+-- the lines of a session: one byte order mark in front is dropped, the rest is cut at each line feed, a carriage return
+-- before one is dropped, and bytes after the last are a line
 abbrev pub lines_of : List ℕ → List (List ℕ)
-lines_of session = lines (without_mark session)
+lines_of session = lines (strip_bom session)
 
 -- a blank or a tab
 abbrev pub is_space : ℕ → Bool
@@ -29,9 +24,9 @@ is_space byte = (byte == 32) || (byte == 9)
 abbrev pub words_of : List ℕ → List (List ℕ)
 words_of line = filter (λ word. not (length word == 0)) (slice_split is_space line)
 
--- at most 65,536 bytes, all of them ASCII, and no double quote among them
-abbrev pub is_plain : List ℕ → Bool
-is_plain line = nat_le (length line) 65536 && list_all (λ byte. nat_lt byte 128 && not (byte == 34)) line
+-- not too long, all of ASCII, and without a double quote
+abbrev pub is_ascii_line : List ℕ → Bool
+is_ascii_line line = nat_le (length line) LINE_BYTES && list_all (λ byte. nat_lt byte 128 && not (byte == 34)) line
 
 -- the range of two words, where both are whole numbers
 abbrev pub range_of : Result ℤ NumberRefusal → Result ℤ NumberRefusal → Option Range
@@ -60,10 +55,10 @@ is_comment [] = false
 is_comment ([] ∷ words) = false
 is_comment ((byte ∷ word) ∷ words) = byte == 35
 
--- a line that is not plain is no command that is known; then a line without words and a comment are no step
+-- any other line is no command that is known; then a line without words and a comment are no step
 abbrev pub command_of : List ℕ → Command
 command_of line =
-    if not (is_plain line) then Unknown
+    if not (is_ascii_line line) then Unknown
     else if is_comment (words_of line) then Skip
     else command_of_words (words_of line)
 

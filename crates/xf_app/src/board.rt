@@ -1,6 +1,5 @@
 //! The standard board of a CSV file: a column for each name of the header, and a row for each record below it.
-ghost use Rattle.std.specs.Prelude.{◌≡◌, ◌⊎◌, ◌<◌, ◌^◌, ◌+◌, ◌*◌, ◌&&◌, nat_le, Some, None, Err, IfOk, IfSome, length, map, position, if◌then◌else◌};
-ghost use Rattle.std.specs.Str.{bytes_eq};
+ghost use Rattle.std.specs.Prelude.{◌≡◌, ◌⊎◌, ◌<◌, ◌^◌, ◌+◌, ◌*◌, ◌&&◌, nat_le, Some, None, Err, IfOk, length, map, if◌then◌else◌};
 ghost use Rattle.csv.specs.Records.{fields_of};
 ghost use Rattle.xf_app.specs.Records.{IsReading, records_ahead};
 ghost use Rattle.xf_app.specs.Board.{board_of, int_column, is_number, number_cell, takes_header};
@@ -14,16 +13,28 @@ use crate::load::{read_next, reader_of};
 use csv::{ByteRecord, Reader};
 use std::alloc::Global;
 use std::io::Read;
+use std::marker::Model;
 use thiserror::Error;
 use xf_base::{
-    Cell, Column, ColumnKind, ListOf, OutOfMemory, Row, RowList, Schema, Text, read_fixed,
+    Cell, Column, ColumnKind, Limits, ListOf, OutOfMemory, Row, RowList, Schema, Text, read_fixed,
 };
 
-/// The columns of a board, and its records.
+/// The columns of a board, and its records: at most as many columns, records and entries as a crossfilter takes, all
+/// columns of whole numbers, and each row of these columns.
 #[derive(Debug, Drop)]
 pub struct Board {
     pub schema: Schema,
     pub rows: RowList,
+}
+
+impl Model for Board {
+    ghost use Rattle.xf_app.specs.BoardParts.{BoardParts, IsBoard};
+
+    ghost Value = { BoardParts };
+
+    ghost view = { λ board. record { columns = board.schema; rows = board.rows } };
+
+    ghost invariant = { λ board. IsBoard board.schema board.rows };
 }
 
 /// Why a file is no board. The first that holds, in this order.
@@ -36,7 +47,7 @@ pub enum BoardFault {
     #[error("uneven record {number}")]
     UnevenRecord { number: u64 },
     /// The file is more than this program takes today: not all columns are of whole numbers under a name of their
-    /// own, or there are more than 32 columns, 1,000,000 records or 16,000,000 fields.
+    /// own, or there are more columns, records or entries than a crossfilter takes.
     #[error("not built")]
     NotBuilt,
     /// Memory was refused, at whatever step.
@@ -55,29 +66,12 @@ impl From<OutOfMemory> for BoardFault {
     }
 }
 
-/// The most columns of a board, and the most records and fields below its header.
-const COLUMNS: usize = 32;
-
-const RECORDS: usize = 1_000_000;
-
-const FIELDS: usize = 16_000_000;
-
-/// The place of the column of a name.
-pub fn place_of(columns: &[Column], name: &[u8]) -> Option<usize>
-    ensures place { result ≡ position (λ column. bytes_eq column.name name.now) columns.now }
-    ensures within { IfSome result (λ place. place < length columns.now) }
-{
-    columns
-        .iter()
-        .position(|column| column.name.as_str().as_bytes() == name)
-}
-
 /// A column for each name of a header, or None where a name is not UTF-8 or stands twice, or there are too many.
 fn schema_of(alloc: Global, header: &ByteRecord) -> Result<Option<Schema>, OutOfMemory>
     ensures { IfOk result (λ schema. schema
         ≡ (if takes_header (fields_of header.now) then Some (map int_column (fields_of header.now)) else None)) }
 {
-    if header.len() > COLUMNS {
+    if header.len() as u64 > Limits::DIMENSIONS {
         return Ok(None);
     }
     let mut schema = Schema::new(alloc);
@@ -88,7 +82,7 @@ fn schema_of(alloc: Global, header: &ByteRecord) -> Result<Option<Schema>, OutOf
         let Ok(name) = str::from_utf8(name) else {
             return Ok(None);
         };
-        if place_of(schema.as_slice(), name.as_bytes()).is_some() {
+        if schema.place_of(name.as_bytes()).is_some() {
             return Ok(None);
         }
         schema.push(Column {
@@ -120,9 +114,10 @@ fn row_of(alloc: Global, fields: &ByteRecord) -> Result<Option<Row>, OutOfMemory
 
 /// Whether a board of so many rows may have one more, where each row has so many fields.
 fn has_room(rows: usize, fields: usize) -> bool
-    ensures { result ≡ (nat_le (rows + 1) 1000000 && nat_le ((rows + 1) * fields) 16000000) }
+    ensures { result ≡ (nat_le (rows + 1) Limits.ROWS && nat_le ((rows + 1) * fields) Limits.ENTRIES) }
 {
-    rows < RECORDS && fields <= FIELDS / (rows + 1)
+    let (rows, fields) = (rows as u64, fields as u64);
+    rows < Limits::ROWS && fields <= Limits::ENTRIES / (rows + 1)
 }
 
 /// The rows so far with those of one record more, as long as all are taken.

@@ -1,23 +1,13 @@
 //! The data view of a crossfilter: its counts, the whole `all`, and the group of each column.
-ghost use Rattle.std.specs.Prelude.{◌≡◌, ◌++◌, OnOk, decimal};
+ghost use Rattle.std.specs.Prelude.{◌≡◌, ◌++◌, OnOk};
 ghost use Rattle.xf_app.specs.Page.{atom_text, counts_lines, data_view, entry_line, group_lines, key_text};
 ghost use Rattle.xf_base.specs.Fixed.{fixed_text};
 ghost use Rattle.xf_base.specs.Word.{word_text};
 
-use itoa::Buffer;
 use std::alloc::Global;
 use std::sync::ledger::Ledger;
-use xf_base::{Atom, Key, OutOfMemory, Steps, put_fixed, put_word};
+use xf_base::{Atom, Key, OutOfMemory, Steps, put_fixed, put_number, put_word};
 use xf_engine::{Cross, KeyNumber};
-
-/// Appends a number in decimal.
-pub fn put_number(out: &mut Vec<u8>, number: u64) -> Result<(), OutOfMemory>
-    ensures ok { OnOk result (out.new.items ≡ out.old.items ++ decimal number) }
-{
-    let mut digits = Buffer::new();
-    out.extend_from_slice(digits.format(number).as_bytes())?;
-    Ok(())
-}
 
 /// Appends the data view: `records SIZE passing COUNT`, `whole all COUNT`, and for each column `group NAME KEYS` with
 /// a line `  KEY COUNT` for each of its keys.

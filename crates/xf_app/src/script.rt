@@ -2,11 +2,12 @@
 ghost use Rattle.std.specs.Prelude.{◌≡◌, ◌<◌, ◌∷◌, IfOk, length, map};
 ghost use Rattle.std.specs.List.{AllByRecursion};
 ghost use Rattle.std.specs.Str.Lines.{lines, strip_carriage_return};
-ghost use Rattle.xf_app.specs.Script.{IsAsciiWord, command_of, command_of_words, is_plain, range_of, without_mark, words_of};
+ghost use Rattle.csv.specs.Reading.{strip_bom};
+ghost use Rattle.xf_app.specs.Script.{IsAsciiWord, command_of, command_of_words, is_ascii_line, range_of, words_of};
 ghost use Rattle.xf_base.specs.Fixed.{number_of};
 
 use std::alloc::Global;
-use xf_base::{OutOfMemory, Text, read_fixed};
+use xf_base::{Limits, OutOfMemory, Text, read_fixed};
 use xf_engine::Range;
 
 /// What a line says.
@@ -23,12 +24,10 @@ pub enum Command {
     },
 }
 
-/// The most bytes of a line.
-const LINE_BYTES: usize = 65_536;
-
-/// A session's bytes behind one byte order mark, if it has one.
+/// A session's bytes after one byte order mark, if it has one.
+#[tactic(auto, unfolding(csv::specs::Reading::strip_bom))]
 pub fn text_of(session: &[u8]) -> &[u8]
-    ensures { result.now ≡ without_mark session.now }
+    ensures { result.now ≡ strip_bom session.now }
 {
     match session {
         [0xef, 0xbb, 0xbf, text @ ..] => text,
@@ -36,7 +35,7 @@ pub fn text_of(session: &[u8]) -> &[u8]
     }
 }
 
-/// The first line of a text that is not empty, and the text behind its line feed.
+/// The first line of a text that is not empty, and the text after its line feed.
 pub fn first_line(text: &[u8]) -> (&[u8], &[u8])
     requires { 0 < length text.now }
     ensures first { lines text.now ≡ result.0.now ∷ lines result.1.now }
@@ -59,17 +58,17 @@ fn without_return(line: &[u8]) -> &[u8]
 }
 
 /// Whether a line is short enough, ASCII and without quotes.
-fn is_plain(line: &[u8]) -> bool
-    ensures { result ≡ is_plain line.now }
+fn is_ascii_line(line: &[u8]) -> bool
+    ensures { result ≡ is_ascii_line line.now }
 {
-    line.len() <= LINE_BYTES && line.iter().all(|byte| *byte < 128 && *byte != b'"')
+    line.len() as u64 <= Limits::LINE_BYTES && line.iter().all(|byte| *byte < 128 && *byte != b'"')
 }
 
 /// What a line says.
 pub fn read_command(alloc: Global, line: &[u8]) -> Result<Command, OutOfMemory>
     ensures { IfOk result (λ command. command ≡ command_of line.now) }
 {
-    if !is_plain(line) {
+    if !is_ascii_line(line) {
         return Ok(Command::Unknown);
     }
     let words = words_of(alloc, line)?;

@@ -1,14 +1,12 @@
 //! A line of a session, done on a crossfilter, and its answer.
 ghost use Rattle.std.specs.Prelude.{◌≡◌, [], ◌∷◌, ◌++◌, IfOk, OnErr, OnOk, codes, decimal, position};
 ghost use Rattle.std.specs.Str.{bytes_eq};
-ghost use Rattle.xf_app.specs.Session.{IsUnmoved, cause, command, filtered, outcome_of, said};
+ghost use Rattle.xf_app.specs.Session.{IsUnmoved, command, filter_outcome, refusal_words, reply_outcome, reply_text};
 
-use crate::board::place_of;
-use crate::page::put_number;
 use crate::script::{Command, read_command};
 use std::alloc::Global;
 use std::sync::ledger::Ledger;
-use xf_base::{OutOfMemory, Steps, Text, put_word};
+use xf_base::{OutOfMemory, Steps, Text, put_number, put_word};
 use xf_engine::{Cross, Range};
 
 /// Why a line is refused. A refused line changes nothing.
@@ -39,7 +37,7 @@ pub fn apply<L: Ledger>(
     line: &[u8],
     steps: &mut Steps<L>,
 ) -> Result<Reply, OutOfMemory>
-    ensures done { IfOk result (λ reply. outcome_of reply cross.new ≡ command cross.old line.now) }
+    ensures answer { IfOk result (λ reply. reply_outcome reply cross.new ≡ command cross.old line.now) }
     ensures unmoved { IfOk result (λ reply. IsUnmoved reply → cross.new ≡ cross.old) }
     ensures err { OnErr result (cross.new ≡ cross.old) }
 {
@@ -57,13 +55,10 @@ fn filter<L: Ledger>(
     range: Option<Range>,
     steps: &mut Steps<L>,
 ) -> Reply
-    ensures done { outcome_of result cross.new ≡ filtered cross.old name range (position (λ column. bytes_eq column.name name) cross.old.columns) }
+    ensures answer { reply_outcome result cross.new ≡ filter_outcome cross.old name range (position (λ column. bytes_eq column.name name) cross.old.columns) }
     ensures unmoved { IsUnmoved result → cross.new ≡ cross.old }
 {
-    match (
-        place_of(cross.schema().as_slice(), name.as_str().as_bytes()),
-        range,
-    ) {
+    match (cross.schema().place_of(name.as_str().as_bytes()), range) {
         (None, _) => Reply::Refused(Refusal::NoDimension { name }),
         (Some(_), None) => Reply::Refused(Refusal::WrongKind),
         (Some(place), Some(range)) => {
@@ -73,8 +68,8 @@ fn filter<L: Ledger>(
 }
 
 /// Appends the number and the words of a refusal.
-fn put_cause(out: &mut Vec<u8>, refusal: &Refusal) -> Result<(), OutOfMemory>
-    ensures ok { OnOk result (out.new.items ≡ out.old.items ++ cause refusal.now) }
+fn put_refusal(out: &mut Vec<u8>, refusal: &Refusal) -> Result<(), OutOfMemory>
+    ensures ok { OnOk result (out.new.items ≡ out.old.items ++ refusal_words refusal.now) }
 {
     match refusal {
         Refusal::UnknownVerb => out.extend_from_slice(b"3 unknown verb")?,
@@ -89,14 +84,14 @@ fn put_cause(out: &mut Vec<u8>, refusal: &Refusal) -> Result<(), OutOfMemory>
 
 /// Appends the line of the step of this number; nothing for a line that is no step.
 pub fn put_step(out: &mut Vec<u8>, number: u64, reply: &Reply) -> Result<(), OutOfMemory>
-    ensures ok { OnOk result (out.new.items ≡ out.old.items ++ said number reply.now) }
+    ensures ok { OnOk result (out.new.items ≡ out.old.items ++ reply_text number reply.now) }
 {
     match reply {
         Reply::Skipped => return Ok(()),
         Reply::Refused(refusal) => {
             put_beginning(out, number)?;
             out.extend_from_slice(b"refused ")?;
-            put_cause(out, refusal)?;
+            put_refusal(out, refusal)?;
         }
         Reply::Moved(count) => {
             put_beginning(out, number)?;

@@ -14,7 +14,7 @@ use Rattle.xf_base.specs.declared.key.Key.TheVariants as key
 use Rattle.xf_engine.specs.declared.key_number.KeyNumber.{KeyNumber}
 use Rattle.xf_engine.specs.declared.range.Range.{Range}
 use Rattle.xf_model.specs.Dimension.{Dimension, Filter, all, range, selected}
-use Rattle.xf_model.specs.Group.{count, group_entries}
+use Rattle.xf_model.specs.Group.{count, group_entries, whole_value}
 use Rattle.xf_model.specs.Moved.{moved}
 
 -- the columns, how much may be held, the rows in order, and the range that is set on each column's dimension
@@ -68,6 +68,10 @@ dimensions cross = dimensions_from 0 cross.ranges
 -- how many rows pass every dimension
 abbrev pub passing_count : State → ℕ
 passing_count cross = length (selected (dimensions cross) None cross.rows)
+
+-- the value of the whole that counts
+abbrev pub whole_count : State → ℕ
+whole_count cross = whole_value count (dimensions cross) cross.rows
 
 -- the group of a column's dimension: each of its keys, with how many rows have it and pass every other dimension
 abbrev pub entries_of : State → ℕ → List (Key × ℕ)

@@ -37,7 +37,7 @@ impl Model for Cross {
 
 impl Cross {
     ghost use Rattle.xf_base.specs.Schema.{IsRowOf};
-    ghost use Rattle.xf_engine.specs.Cross.{IsInt, entries_of, key_numbers, moved_count, passing_count};
+    ghost use Rattle.xf_engine.specs.Cross.{IsInt, entries_of, key_numbers, moved_count, passing_count, whole_count};
 
     /// A crossfilter without records, with no filter set on any dimension. It takes no memory yet.
     pub fn new(alloc: Global, schema: Schema, limits: Limits) -> Cross
@@ -97,9 +97,10 @@ impl Cross {
         self.table.len() as u64
     }
 
-    /// How many records pass every dimension.
+    /// How many records pass every dimension, which is the value of the whole that counts.
     pub fn passing_count<L: Ledger>(&self, steps: &mut Steps<L>) -> u64
-        ensures { result ≡ passing_count self.now }
+        ensures passing { result ≡ passing_count self.now }
+        ensures whole { result ≡ whole_count self.now }
     {
         let columns = self.schema().len();
         passing_count(self.table.rows(steps).as_slice(), &self.ranges[..columns])

@@ -15,7 +15,7 @@ text-progress_after : {State : Type 0} (view : State → List ℕ) (so_far : Pro
 text-progress_after view so_far outcome = (outcome_text view (so_far.number + 1) outcome, refl)
 
 -- so do lines in turn
-text-fold : {State Line : Type 0} (command : State → Line → Outcome State) (view : State → List ℕ) (so_far : Progress State) (lines : List Line) → (added : List ℕ) × ((fold (λ p line. progress_after view p (command p.state line)) so_far lines).text ≡ so_far.text ++ added)
+pub text-fold : {State Line : Type 0} (command : State → Line → Outcome State) (view : State → List ℕ) (so_far : Progress State) (lines : List Line) → (added : List ℕ) × ((fold (λ p line. progress_after view p (command p.state line)) so_far lines).text ≡ so_far.text ++ added)
 text-fold command view so_far [] = ([], sym (append-nil so_far.text))
 text-fold command view so_far (line ∷ lines) =
     let first = text-progress_after view so_far (command so_far.state line) in

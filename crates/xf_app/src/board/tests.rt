@@ -1,5 +1,5 @@
 //! What no clause says: what files mean as boards, by values written by hand.
-use super::{Board, place_of, read_board};
+use super::{Board, read_board};
 use std::alloc::Global;
 use std::fmt::Write;
 use std::test::Fail;
@@ -103,7 +103,7 @@ fn finds_columns(rt: HostRuntime) -> Result<(), Fail> {
         (b"", None),
     ];
     for (name, want) in cases {
-        assert_eq!(rt; place_of(board.schema.as_slice(), name), want);
+        assert_eq!(rt; board.schema.place_of(name), want);
     }
     Ok(())
 }

@@ -19,16 +19,15 @@ returns-then-is_some c =
     let some = rw c.in-Some.is at c.get.ensures.value in
     let text = c.as_bytes.ensures.value ∙ c.in-Ok.ensures.cases.0 in
     let found = ap is_some (sym c.place_of.ensures.place) ∙ sym c.is_some.ensures ∙ c.if-is_some.true in
-    rw (name-twice (fields_of c.args.header.now) c.loop-i.i c.in-Some.name.now c.as_bytes.result.now c.as_slice.result.now (sym some) c.loop-i.invariant.read text (c.as_slice.ensures ∙ c.loop-i.invariant.columns) found)
+    rw (name-twice (fields_of c.args.header.now) c.loop-i.i c.in-Some.name.now c.as_bytes.result.now c.loop-i.schema (sym some) c.loop-i.invariant.read text c.loop-i.invariant.columns found)
 
 pub loop-i-preserved : goal.loop-i-preserved
 loop-i-preserved c =
     let some = rw c.in-Some.is at c.get.ensures.value in
     let text = c.as_bytes.ensures.value ∙ c.in-Ok.ensures.cases.0 in
     let found = ap is_some (sym c.place_of.ensures.place) ∙ sym c.is_some.ensures ∙ c.if-is_some.false in
-    let columns = c.as_slice.ensures ∙ c.loop-i.invariant.columns in
-    let more = name-more (fields_of c.args.header.now) c.loop-i.i c.in-Some.name.now c.as_bytes.result.now c.in_ok-of.field-0 c.as_slice.result.now (sym some) c.loop-i.invariant.read text columns c.in-Ok.ensures.cases.1 found (c.in_ok-of.ensures ∙ c.in-Ok.ensures.cases.0) in
-    record { columns = c.in_ok-push.ensures.ok ∙ rw (sym c.as_slice.ensures) more.0; read = more.1 }
+    let more = name-more (fields_of c.args.header.now) c.loop-i.i c.in-Some.name.now c.as_bytes.result.now c.in_ok-of.field-0 c.loop-i.schema (sym some) c.loop-i.invariant.read text c.loop-i.invariant.columns c.in-Ok.ensures.cases.1 found (c.in_ok-of.ensures ∙ c.in-Ok.ensures.cases.0) in
+    record { columns = c.in_ok-push.ensures.ok ∙ more.0; read = more.1 }
 
 pub returns : goal.returns
 returns c = columns-all (fields_of c.args.header.now) c.loop-i.i c.loop-i.schema (omega arith) (omega arith) c.loop-i.invariant.read c.loop-i.invariant.columns

@@ -1,15 +1,15 @@
 use Rattle.std.proofs.Common.{sym, ◌∙◌, rules, w64}
 use Rattle.std.specs.Prelude.{FitsSigned}
 use Rattle.std.proofs.lemmas.Int.{to_z-of_z}
-use Rattle.xf_app.proofs.SessionFacts.{filtered-set}
+use Rattle.xf_app.proofs.FilterOutcome.{filter_outcome-set}
 use Rattle.xf_app.proofs.session.filter.Goals as goal
 
-pub returns-clause-done : goal.returns-clause-done
-returns-clause-done g c =
+pub returns-clause-answer : goal.returns-clause-answer
+returns-clause-answer g c =
     let arm = c.in-Some-Some in
     let low : FitsSigned w64 c.in-Some-Some.range.low = search rules in
     let high : FitsSigned w64 c.in-Some-Some.range.high = search rules in
-    let found = rw (c.as_bytes.ensures.value, c.as_str.ensures, c.as_slice.ensures, c.schema.ensures) at c.place_of.ensures.place in
+    let found = rw (c.as_bytes.ensures.value, c.as_str.ensures, c.schema.ensures) at c.place_of.ensures.place in
     let moved = rw (to_z-of_z w64 c.in-Some-Some.range.low low, to_z-of_z w64 c.in-Some-Some.range.high high) at c.set_filter.ensures.moved in
     let set = rw (to_z-of_z w64 c.in-Some-Some.range.low low, to_z-of_z w64 c.in-Some-Some.range.high high) at c.set_filter.ensures.filter in
-    filtered-set c.args.cross.now c.set_filter.new.self c.args.name c.args.range _ arm.place arm.range c.set_filter.result (sym found ∙ arm.is-0) arm.is-1 moved set
+    filter_outcome-set c.args.cross.now c.set_filter.new.self c.args.name c.args.range _ arm.place arm.range c.set_filter.result (sym found ∙ arm.is-0) arm.is-1 moved set

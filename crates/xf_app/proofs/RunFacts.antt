@@ -1,0 +1,263 @@
+-- What the parts of a run give together.
+use Rattle.std.proofs.Common.{◌≡◌, ◌⊎◌, inl, inr, ℕ, ◌+◌, ◌<◌, ◌≤◌, nat_lt, cond, true, false, List, [], length, Option, Some, None, IfSome, IsSome, IsSomeAnd, Result, Ok, Err, refl, sym, ap, subst, ◌∙◌, arith}
+use Rattle.std.proofs.lemmas.Bool.{lt-ltb, le-ltb}
+use Rattle.std.specs.FinMap.{get}
+use Rattle.xf_app.proofs.Put.{part-nothing}
+use Rattle.xf_app.specs.Board.{board_of}
+use Rattle.xf_app.specs.BoardParts.{BoardParts}
+use Rattle.xf_app.specs.Due.{Due, absent_due, board_due, due_of, file_due, files_due, names_due, progress_due, refused_due, session_of, too_long_due, usage_due}
+use Rattle.xf_app.specs.Ends.{Ends, EndsRefused, EndsSilent, EndsUnfetched, IsRun}
+use Rattle.xf_app.specs.Put.{Puts, PutsPart}
+use Rattle.xf_app.specs.Run.{CountsFaults, HasCause, Headline, Holds, IsAccepted, IsStopped, MeetsDue, NoReadCounted, NoWriteCounted, ReadingFailed, Seen, WritingFailed}
+use Rattle.xf_app.specs.Words.{names_of}
+use Rattle.xf_app.specs.declared.board.BoardFault.{BoardFault}
+use Rattle.xf_app.specs.declared.board.BoardFault.TheVariants as fault
+use Rattle.xf_app.specs.declared.status.Status.{Status}
+use Rattle.xf_app.specs.declared.status.Status.TheVariants as status
+use Rattle.xf_base.specs.declared.limits.TheConstants.Limits.{FILE_BYTES}
+use Rattle.xf_outside.specs.Account.{DepotAccount, Files, SinkAccount}
+use Rattle.xf_outside.specs.Count.{FaultsAfterFetch, Rose}
+use Rattle.xf_outside.specs.declared.depot.FetchFault.{FetchFault}
+use Rattle.xf_outside.specs.declared.depot.FetchFault.TheVariants as fetch
+
+-- where no fault is counted, none is to be told
+counts-none : (seen : Seen) (got : Status) → NoReadCounted seen → NoWriteCounted seen → CountsFaults seen got
+counts-none seen status.Done r w = (r, w)
+counts-none seen status.DoneWithRefusals r w = (r, w)
+counts-none seen status.Usage r w = (r, w)
+counts-none seen status.BoardRefused r w = (r, w)
+counts-none seen status.ReadFault r w = w
+counts-none seen status.WriteFault r w = r
+counts-none seen status.Memory r w = (r, w)
+counts-none seen status.Absent r w = (r, w)
+counts-none seen status.TooLong r w = (r, w)
+
+-- a run that stopped without memory has counted a fault
+stopped-counted : (seen : Seen) (got : Status) → HasCause seen got → IsStopped got → (got ≡ status.Memory → ⊥) → (ReadingFailed seen → ⊥) → (WritingFailed seen → ⊥) → ⊥
+stopped-counted seen got cause stopped memory reading writing =
+    elim stopped [
+      | inl read ↦ let c = subst (HasCause seen) read cause in reading c.1
+      | inr later ↦ elim later [
+        | inl wrote ↦ let c = subst (HasCause seen) wrote cause in writing c
+        | inr none ↦ memory none
+      ]
+    ]
+
+-- a file that is held within the limit is what its bytes say
+file_due-held : (files : Files) (name bytes : List ℕ) (given : List ℕ → Due) → Holds files name bytes → file_due name (get files name) given ≡ given bytes
+file_due-held files name bytes given held =
+    let short : nat_lt FILE_BYTES (length bytes) ≡ false = le-ltb FILE_BYTES (length bytes) held.1 in
+    rw (held.0, short) refl
+
+-- what is due for the session's file, after a board that was accepted
+abbrev after_board : Files → List ℕ → BoardParts → Due
+after_board files session board = file_due session (get files session) (λ s. progress_due (session_of board s))
+
+-- what is due for a board that is held is what it reads as
+files_due-held : (files : Files) (name session bytes : List ℕ) (read : Result BoardParts BoardFault) → Holds files name bytes → board_of bytes ≡ read
+    → files_due name session files ≡ board_due read (after_board files session)
+files_due-held files name session bytes read held made =
+    file_due-held files name bytes (λ b. board_due (board_of b) (after_board files session)) held ∙ ap (λ r. board_due r (after_board files session)) made
+
+-- the headline follows from what is due
+headline-from : (seen : Seen) (got : Status) → HasCause seen got → MeetsDue seen got → Headline seen got
+headline-from seen got cause meets = λ name session_name bytes session files board names told held made session_held reading writing memory.
+    let session_due : Due = progress_due (session_of board session) in
+    let due : due_of seen.words seen.before.depot.files ≡ Some session_due =
+    rw (names, told) (ap (λ (d : Due). Some d) (files_due-held files name session_name bytes (Ok board) held made
+    ∙ file_due-held files session_name session (λ s. progress_due (session_of board s)) session_held)) in
+    elim (rw due at meets) [
+      | inl whole ↦ whole.1
+      | inr stopped ↦ absurd (stopped-counted seen got cause stopped.0 memory reading writing)
+    ]
+
+meets : (seen : Seen) (got : Status) → HasCause seen got → CountsFaults seen got → MeetsDue seen got → IsRun seen got
+meets seen got cause faults due = record {
+  cause = cause;
+  faults = faults;
+  due = due;
+  headline = headline-from seen got cause due;
+}
+
+-- what is due is this, where it is known
+abbrev IsDue : Seen → Due → Type 0
+IsDue seen due = IfSome (due_of seen.words seen.before.depot.files) (λ d. d ≡ due)
+
+weaker : {X : Type 0} (o : Option X) (P R : X → Type 0) → ((x : X) → P x → R x) → IfSome o P → IfSome o R
+weaker None P R f p = tt
+weaker (Some x) P R f p = f x p
+
+-- a run that ended with what is due
+ends : (seen : Seen) (due : Due) (got : Status) → IsDue seen due → HasCause seen due.status → NoReadCounted seen → Ends due seen.before.sink seen.after.sink got → IsRun seen got
+ends seen due got is cause quiet h =
+    elim h [
+      | inl whole ↦ meets seen got (subst (HasCause seen) (sym whole.0) cause) (counts-none seen got quiet whole.1.1)
+          (weaker (due_of seen.words seen.before.depot.files) _ _ (λ d e. inl (rw e whole.0, rw e whole.1.0)) is)
+      | inr stopped ↦ elim stopped [
+        | inl failed ↦ meets seen got (subst (HasCause seen) (sym failed.0) failed.2) (subst (CountsFaults seen) (sym failed.0) quiet)
+            (weaker (due_of seen.words seen.before.depot.files) _ _ (λ d e. inr (inr (inl failed.0), rw e failed.1)) is)
+        | inr memory ↦ meets seen got (subst (HasCause seen) (sym memory.0) tt) (counts-none seen got quiet memory.2)
+            (weaker (due_of seen.words seen.before.depot.files) _ _ (λ d e. inr (inr (inr memory.0), rw e memory.1)) is)
+      ]
+    ]
+
+-- nothing was put: the run stopped before it put anything
+silent-due : (seen : Seen) (got : Status) → IsStopped got → seen.after.sink ≡ seen.before.sink → MeetsDue seen got
+silent-due seen got stopped same =
+    go (due_of seen.words seen.before.depot.files)
+  where
+    go : (o : Option Due) → IfSome o (λ due. ((got ≡ due.status) × Puts seen.before.sink seen.after.sink due.text) ⊎ (IsStopped got × PutsPart seen.before.sink seen.after.sink due.text))
+    go None = tt
+    go (Some due) = inr (stopped, subst (λ sink. PutsPart seen.before.sink sink due.text) (sym same) (part-nothing seen.before.sink due.text))
+
+silent-memory : (seen : Seen) (got : Status) → NoReadCounted seen → EndsSilent status.Memory seen.before.sink seen.after.sink got → IsRun seen got
+silent-memory seen got quiet h =
+    meets seen got (subst (HasCause seen) (sym h.0) tt) (counts-none seen got quiet (ap (λ (s : SinkAccount). s.faults) h.1)) (silent-due seen got (inr (inr h.0)) h.1)
+
+silent-read_fault : (seen : Seen) (got : Status) → IsAccepted seen → ReadingFailed seen → EndsSilent status.ReadFault seen.before.sink seen.after.sink got → IsRun seen got
+silent-read_fault seen got accepted failed h =
+    meets seen got (subst (HasCause seen) (sym h.0) (accepted, failed)) (subst (CountsFaults seen) (sym h.0) (ap (λ (s : SinkAccount). s.faults) h.1)) (silent-due seen got (inl h.0) h.1)
+
+-- the words are accepted
+accepted : (words : List (List ℕ)) (names : List ℕ × List ℕ) → names_of words ≡ Some names → IsSome (names_of words)
+accepted words names e = rw e refl
+
+-- the words are refused
+pub run-usage : (seen : Seen) (got : Status) → names_of seen.words ≡ None → NoReadCounted seen → Ends usage_due seen.before.sink seen.after.sink got → IsRun seen got
+run-usage seen got none quiet h =
+    let is : IsDue seen usage_due = rw none refl in
+    ends seen usage_due got is none quiet h
+
+-- what the files tell of a name
+names-due : (seen : Seen) (name session : List ℕ) (due : Due) (fact : Files → Type 0) → names_of seen.words ≡ Some (name, session)
+    → IfSome seen.before.depot.files fact → ((files : Files) → fact files → files_due name session files ≡ due) → IsDue seen due
+names-due seen name session due fact names told gives = rw names (go seen.before.depot.files told)
+  where
+    go : (o : Option Files) → IfSome o fact → IfSome (names_due (Some (name, session)) o) (λ d. d ≡ due)
+    go None t = tt
+    go (Some files) t = gives files t
+
+-- a file that has more bytes than the limit is too long
+file_due-long : (files : Files) (name : List ℕ) (given : List ℕ → Due) → IsSomeAnd (get files name) (λ bytes. FILE_BYTES < length bytes) → file_due name (get files name) given ≡ too_long_due name
+file_due-long files name given h = go (get files name) h
+  where
+    go : (o : Option (List ℕ)) → IsSomeAnd o (λ bytes. FILE_BYTES < length bytes) → file_due name o given ≡ too_long_due name
+    go None t = absurd t
+    go (Some bytes) t = let long : nat_lt FILE_BYTES (length bytes) ≡ true = lt-ltb FILE_BYTES (length bytes) t in rw long refl
+
+-- a count that rose after an earlier one rose from that one too
+pub rose-later : (a b c by : ℕ) → a ≤ b → Rose b c by → Rose a c by
+rose-later a b c by first h = omega (arith, h)
+
+-- what a fetch of a name that was answered by a fault tells
+pub record IsMissed (seen : Seen) (name : List ℕ) (cause : FetchFault) : Type 0 where
+  pub absent : cause ≡ fetch.Absent → Rose seen.before.depot.misses seen.after.depot.misses 1 × IfSome seen.before.depot.files (λ files. get files name ≡ None)
+  pub too_long : cause ≡ fetch.TooLong → Rose seen.before.depot.taken seen.after.depot.taken (FILE_BYTES + 1) × IfSome seen.before.depot.files (λ files. IsSomeAnd (get files name) (λ bytes. FILE_BYTES < length bytes))
+  pub failed : cause ≡ fetch.Failed → ReadingFailed seen
+  pub quiet : (cause ≡ fetch.Failed → ⊥) → NoReadCounted seen
+
+-- what the clauses of the first fetch tell
+pub missed-first : (seen : Seen) (name : List ℕ) (cause : FetchFault)
+    → (cause ≡ fetch.Absent → Rose seen.before.depot.misses seen.after.depot.misses 1 × IfSome seen.before.depot.files (λ files. get files name ≡ None))
+    → (cause ≡ fetch.TooLong → Rose seen.before.depot.taken seen.after.depot.taken (FILE_BYTES + 1) × IfSome seen.before.depot.files (λ files. IsSomeAnd (get files name) (λ bytes. FILE_BYTES < length bytes)))
+    → FaultsAfterFetch {X = Unit {0}} (Err cause) seen.before.depot.faults seen.after.depot.faults → IsMissed seen name cause
+missed-first seen name fetch.Absent absent long faults = record { absent = absent; too_long = long; failed = λ e. cc e; quiet = λ e. faults }
+missed-first seen name fetch.TooLong absent long faults = record { absent = absent; too_long = long; failed = λ e. cc e; quiet = λ e. faults }
+missed-first seen name fetch.Failed absent long faults = record { absent = absent; too_long = long; failed = λ e. faults; quiet = λ e. absurd (e refl) }
+missed-first seen name fetch.OutOfMemory absent long faults = record { absent = absent; too_long = long; failed = λ e. cc e; quiet = λ e. faults }
+
+-- and those of the second, where the first has counted no fault
+pub missed-second : (seen : Seen) (name : List ℕ) (cause : FetchFault) (now : DepotAccount) → now.files ≡ seen.before.depot.files → now.faults ≡ seen.before.depot.faults
+    → seen.before.depot.misses ≤ now.misses → seen.before.depot.taken ≤ now.taken
+    → (cause ≡ fetch.Absent → Rose now.misses seen.after.depot.misses 1 × IfSome now.files (λ files. get files name ≡ None))
+    → (cause ≡ fetch.TooLong → Rose now.taken seen.after.depot.taken (FILE_BYTES + 1) × IfSome now.files (λ files. IsSomeAnd (get files name) (λ bytes. FILE_BYTES < length bytes)))
+    → FaultsAfterFetch {X = Unit {0}} (Err cause) now.faults seen.after.depot.faults → IsMissed seen name cause
+missed-second seen name cause now files quiet misses taken absent long faults =
+    missed-first seen name cause
+    (λ e. let miss = absent e in (rose-later seen.before.depot.misses now.misses seen.after.depot.misses 1 misses miss.0, subst (λ o. IfSome o (λ f. get f name ≡ None)) files miss.1))
+    (λ e. let more = long e in (rose-later seen.before.depot.taken now.taken seen.after.depot.taken (FILE_BYTES + 1) taken more.0, subst (λ o. IfSome o (λ f. IsSomeAnd (get f name) (λ bytes. FILE_BYTES < length bytes))) files more.1))
+    (subst (λ n. FaultsAfterFetch {X = Unit {0}} (Err cause) n seen.after.depot.faults) quiet faults)
+
+-- a file that was fetched is held
+pub holds-fetched : (told : Option Files) (name bytes : List ℕ) → length bytes ≤ FILE_BYTES → IfSome told (λ files. get files name ≡ Some bytes) → IfSome told (λ files. Holds files name bytes)
+holds-fetched told name bytes small at = weaker told _ _ (λ files e. (e, small)) at
+
+-- the board was not fetched
+pub run-no_board : (seen : Seen) (name session : List ℕ) (cause : FetchFault) (got : Status) → names_of seen.words ≡ Some (name, session)
+    → IsMissed seen name cause → EndsUnfetched cause name seen.before.sink seen.after.sink got → IsRun seen got
+run-no_board seen name session fetch.Absent got names missed h =
+    let miss = missed.absent refl in
+    let is = names-due seen name session (absent_due name) (λ files. get files name ≡ None) names miss.1 (λ files none. rw none refl) in
+    ends seen (absent_due name) got is (accepted seen.words (name, session) names, miss.0) (missed.quiet (λ e. cc e)) h
+run-no_board seen name session fetch.TooLong got names missed h =
+    let more = missed.too_long refl in
+    let is = names-due seen name session (too_long_due name) (λ files. IsSomeAnd (get files name) (λ bytes. FILE_BYTES < length bytes)) names more.1 (λ files long. file_due-long files name (λ b. board_due (board_of b) (after_board files session)) long) in
+    ends seen (too_long_due name) got is (accepted seen.words (name, session) names, more.0) (missed.quiet (λ e. cc e)) h
+run-no_board seen name session fetch.Failed got names missed h = silent-read_fault seen got (accepted seen.words (name, session) names) (missed.failed refl) h
+run-no_board seen name session fetch.OutOfMemory got names missed h = silent-memory seen got (missed.quiet (λ e. cc e)) h
+
+-- the board was refused
+pub run-refused : (seen : Seen) (name session bytes : List ℕ) (read : Result BoardParts BoardFault) (cause : BoardFault) (got : Status) → names_of seen.words ≡ Some (name, session)
+    → IfSome seen.before.depot.files (λ files. Holds files name bytes) → NoReadCounted seen → (read ≡ Err fault.OutOfMemory) ⊎ (read ≡ board_of bytes) → read ≡ Err cause
+    → EndsRefused cause seen.before.sink seen.after.sink got → IsRun seen got
+run-refused seen name session bytes read cause got names held quiet is found h = go cause found h
+  where
+    refusal : (own : BoardFault) → (own ≡ fault.OutOfMemory → ⊥) → read ≡ Err own → Ends (refused_due own) seen.before.sink seen.after.sink got → IsRun seen got
+    refusal own other e end =
+        let made : board_of bytes ≡ Err own = elim is [
+          | inl none ↦ let clash : ◌≡◌ {A = Result BoardParts BoardFault} (Err fault.OutOfMemory) (Err own) = sym none ∙ e in absurd (other (cc clash))
+          | inr same ↦ sym same ∙ e
+        ] in
+        let due = names-due seen name session (refused_due own) (λ files. Holds files name bytes) names held (λ files holds. files_due-held files name session bytes (Err own) holds made) in
+        ends seen (refused_due own) got due (accepted seen.words (name, session) names) quiet end
+
+    go : (own : BoardFault) → read ≡ Err own → EndsRefused own seen.before.sink seen.after.sink got → IsRun seen got
+    go fault.NoHeader e end = refusal fault.NoHeader (λ o. cc o) e end
+    go (fault.UnevenRecord number) e end = refusal (fault.UnevenRecord number) (λ o. cc o) e end
+    go fault.NotBuilt e end = refusal fault.NotBuilt (λ o. cc o) e end
+    go fault.OutOfMemory e end = silent-memory seen got quiet end
+
+-- a board that was read is what the definition says
+pub read-made : (bytes : List ℕ) (read : Result BoardParts BoardFault) (board : BoardParts) → (read ≡ Err fault.OutOfMemory) ⊎ (read ≡ board_of bytes) → read ≡ Ok board → board_of bytes ≡ Ok board
+read-made bytes read board (inl none) is = let clash : ◌≡◌ {A = Result BoardParts BoardFault} (Err fault.OutOfMemory) (Ok board) = sym none ∙ is in cc clash
+read-made bytes read board (inr same) is = sym same ∙ is
+
+-- two facts of the files that are told give a third
+both : {X : Type 0} (o : Option X) (P Q : X → Type 0) → IfSome o P → IfSome o Q → IfSome o (λ x. P x × Q x)
+both None P Q p q = tt
+both (Some x) P Q p q = (p, q)
+
+-- what is due where the board was accepted
+session-due : (name session bytes : List ℕ) (board : BoardParts) (files : Files) → Holds files name bytes → board_of bytes ≡ Ok board
+    → files_due name session files ≡ file_due session (get files session) (λ s. progress_due (session_of board s))
+session-due name session bytes board files holds made = files_due-held files name session bytes (Ok board) holds made
+
+-- the session was not fetched, after a board that was accepted
+pub run-no_session : (seen : Seen) (name session bytes : List ℕ) (board : BoardParts) (cause : FetchFault) (got : Status) → names_of seen.words ≡ Some (name, session)
+    → IfSome seen.before.depot.files (λ files. Holds files name bytes) → board_of bytes ≡ Ok board → IsMissed seen session cause
+    → EndsUnfetched cause session seen.before.sink seen.after.sink got → IsRun seen got
+run-no_session seen name session bytes board fetch.Absent got names held made missed h =
+    let miss = missed.absent refl in
+    let is = names-due seen name session (absent_due session) (λ files. Holds files name bytes × (get files session ≡ None)) names (both seen.before.depot.files _ _ held miss.1)
+    (λ files t. session-due name session bytes board files t.0 made ∙ rw t.1 refl) in
+    ends seen (absent_due session) got is (accepted seen.words (name, session) names, miss.0) (missed.quiet (λ e. cc e)) h
+run-no_session seen name session bytes board fetch.TooLong got names held made missed h =
+    let more = missed.too_long refl in
+    let is = names-due seen name session (too_long_due session) (λ files. Holds files name bytes × IsSomeAnd (get files session) (λ b. FILE_BYTES < length b)) names (both seen.before.depot.files _ _ held more.1)
+    (λ files t. session-due name session bytes board files t.0 made ∙ file_due-long files session (λ s. progress_due (session_of board s)) t.1) in
+    ends seen (too_long_due session) got is (accepted seen.words (name, session) names, more.0) (missed.quiet (λ e. cc e)) h
+run-no_session seen name session bytes board fetch.Failed got names held made missed h = silent-read_fault seen got (accepted seen.words (name, session) names) (missed.failed refl) h
+run-no_session seen name session bytes board fetch.OutOfMemory got names held made missed h = silent-memory seen got (missed.quiet (λ e. cc e)) h
+
+-- the session was played
+pub run-played : (seen : Seen) (name session_name bytes session : List ℕ) (board : BoardParts) (got : Status) → names_of seen.words ≡ Some (name, session_name)
+    → IfSome seen.before.depot.files (λ files. Holds files name bytes) → IfSome seen.before.depot.files (λ files. Holds files session_name session) → board_of bytes ≡ Ok board
+    → NoReadCounted seen → Ends (progress_due (session_of board session)) seen.before.sink seen.after.sink got → IsRun seen got
+run-played seen name session_name bytes session board got names held session_held made quiet h =
+    let due : Due = progress_due (session_of board session) in
+    let is = names-due seen name session_name due (λ files. Holds files name bytes × Holds files session_name session) names (both seen.before.depot.files _ _ held session_held)
+    (λ files t. session-due name session_name bytes board files t.0 made ∙ file_due-held files session_name session (λ s. progress_due (session_of board s)) t.1) in
+    let ok = accepted seen.words (name, session_name) names in
+    let P : Status → Type 0 = HasCause seen in
+    let cause : HasCause seen due.status = elim (Rattle.std.proofs.Common.nat_eq (session_of board session).refusals 0) as (λ b. P (cond b status.Done status.DoneWithRefusals)) [ true ↦ ok | false ↦ ok ] in
+    ends seen due got is cause quiet h
