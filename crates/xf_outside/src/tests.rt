@@ -1,7 +1,9 @@
-//! Each depot and sink once, with the calls that were told to fail.
+//! Each depot and sink once, with calls that fail and what is kept of their causes.
 use super::*;
-use std::fs;
+use std::fmt::Display;
+use std::io::ErrorKind;
 use std::test::Fail;
+use std::{fs, io};
 use xf_base::Text;
 
 /// How many bytes a depot of any kind gives, or why it gives none.
@@ -25,16 +27,16 @@ fn memory_depot_answers(rt: HostRuntime) -> Result<(), Fail> {
     ]?;
     let mut depot = MemoryDepot::new(files, vec![in alloc; 2]?);
     let table = [
-        ("a.csv", 3, Ok(3)),
-        ("a.csv", 3, Err(FetchFault::Failed)),
-        ("a.csv", 2, Err(FetchFault::TooLong)),
-        ("b.csv", 0, Ok(0)),
-        ("c.csv", 9, Err(FetchFault::Absent)),
+        ("the first file of a name", "a.csv", 3, Ok(3)),
+        ("a call told to fail", "a.csv", 3, Err(FetchFault::Failed)),
+        ("one byte too long", "a.csv", 2, Err(FetchFault::TooLong)),
+        ("no byte at no limit", "b.csv", 0, Ok(0)),
+        ("no such name", "c.csv", 9, Err(FetchFault::Absent)),
     ];
-    for (name, limit, want) in table {
+    for (shows, name, limit, want) in table {
         assert!(rt;
             fetched_len(&rt, &mut depot, name, limit) == want,
-            "at {name} {limit}"
+            "{shows}"
         );
     }
     Ok(())
@@ -45,13 +47,13 @@ fn memory_sink_keeps(rt: HostRuntime) -> Result<(), Fail> {
     let alloc = rt.alloc();
     let mut sink = MemorySink::new(alloc, vec![in alloc; (2, 1), (3, 9), (3, 0)]?);
     let table = [
-        (b"ab", Ok(())),
-        (b"cd", Err(PutFault::Failed)),
-        (b"ef", Err(PutFault::Failed)),
-        (b"gh", Ok(())),
+        ("all of a text", b"ab", Ok(())),
+        ("its first byte", b"cd", Err(PutFault::Failed)),
+        ("all there is", b"ef", Err(PutFault::Failed)),
+        ("all again", b"gh", Ok(())),
     ];
-    for (text, want) in table {
-        assert!(rt; sink.put(text) == want, "at {text:?}");
+    for (shows, text, want) in table {
+        assert!(rt; sink.put(text) == want, "{shows}");
     }
     assert_eq!(rt; sink.bytes(), b"abcefgh".as_slice());
     Ok(())
@@ -63,20 +65,59 @@ fn file_depot_reads(rt: HostRuntime) -> Result<(), Fail> {
     fs::write(&rt, name, "fetched")?;
     let mut depot = FileDepot::new(&rt);
     let table = [
-        (name, 7, Ok(7)),
-        (name, 6, Err(FetchFault::TooLong)),
-        ("xf_outside_absent.bin", 7, Err(FetchFault::Absent)),
-        ("", 7, Err(FetchFault::Absent)),
-        (".", 7, Err(FetchFault::Failed)),
+        ("all bytes", name, 7, Ok(7)),
+        ("one byte too long", name, 6, Err(FetchFault::TooLong)),
+        (
+            "no such file",
+            "xf_outside_absent.bin",
+            7,
+            Err(FetchFault::Absent),
+        ),
+        ("no name", "", 7, Err(FetchFault::Absent)),
+        (
+            "a file as a folder",
+            "xf_outside_fetched.bin/x",
+            7,
+            Err(FetchFault::Failed),
+        ),
+        ("a folder", ".", 7, Err(FetchFault::Failed)),
     ];
-    for (name, limit, want) in table {
+    assert!(rt; depot.failure().is_none());
+    for (shows, name, limit, want) in table {
         assert!(rt;
             fetched_len(&rt, &mut depot, name, limit) == want,
-            "at {name} {limit}"
+            "{shows}"
         );
     }
+    let failure = depot.failure().ok_or("no failure is kept")?;
+    assert_eq!(rt; failure.name.as_deref(), Some("."));
+    assert_eq!(rt; failure.error.kind(), ErrorKind::IsADirectory);
     fs::remove_file(&rt, name)?;
     Ok(())
+}
+
+/// A standard output that takes nothing, with an error or without one.
+#[derive(Drop)]
+struct Stuck {
+    error: Option<io::Error>,
+}
+
+impl Print for Stuck {
+    fn print<D: Display + Drop>(&self, _value: D) -> io::Result<()> {
+        Ok(())
+    }
+
+    fn println<D: Display + Drop>(&self, _value: D) -> io::Result<()> {
+        Ok(())
+    }
+
+    fn write_all(&self, _bytes: &[u8]) -> io::Result<()> {
+        Ok(())
+    }
+
+    fn write_some(&self, _bytes: &[u8]) -> io::Result<usize> {
+        self.error.map_or(Ok(0), Err)
+    }
 }
 
 #[test]
@@ -84,4 +125,23 @@ fn std_sink_writes(rt: HostRuntime) {
     let mut sink = StdSink::new(&rt);
     assert_eq!(rt; sink.put(b"put\n"), Ok(()));
     assert_eq!(rt; sink.put(b""), Ok(()));
+    assert!(rt; sink.failure().is_none());
+}
+
+#[test]
+fn std_sink_keeps_the_cause(rt: HostRuntime) -> Result<(), Fail> {
+    let broken = io::Error::from(ErrorKind::BrokenPipe);
+    let table = [
+        ("an error of the system", Some(broken), "broken pipe"),
+        ("no byte taken", None, "write returned 0 bytes"),
+    ];
+    for (shows, error, want) in table {
+        let output = Stuck { error };
+        let mut sink = StdSink::new(&output);
+        assert!(rt; sink.put(b"put") == Err(PutFault::Failed), "{shows}");
+        let failure = sink.failure().ok_or("no failure is kept")?;
+        let told = format!(in rt.alloc(); "{failure}")?;
+        assert!(rt; told.as_str() == want, "{shows}: {told}");
+    }
+    Ok(())
 }
