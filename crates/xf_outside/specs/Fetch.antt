@@ -1,5 +1,5 @@
 -- What a fetch from the files of the system reads and counts.
-use Rattle.std.specs.Prelude.{◌≡◌, ℕ, ◌+◌, ◌≤◌, List, length, Option, Result, Ok, Err, None}
+use Rattle.std.specs.Prelude.{ℕ, ◌+◌, ◌≤◌, List, length, Option, Result, Ok, Err, None}
 use Rattle.std.specs.Io.KnownBytes.{Consumes}
 use Rattle.xf_outside.specs.Account.{DepotAccount}
 use Rattle.xf_outside.specs.Count.{Rose, count_after}

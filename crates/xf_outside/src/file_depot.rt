@@ -12,17 +12,35 @@ use std::io::{ErrorKind, Read};
 use std::marker::Model;
 use std::rt::Files;
 use std::{fs, io};
+use thiserror::Error;
 
 /// How many bytes are asked for at a time.
 const PIECE: usize = 16_384;
 
-/// What made a fetch fail.
+/// Why a fetch gave no bytes, in words for a person.
+#[derive(Clone, Copy, Debug, Error)]
+pub enum FetchCause {
+    /// The system says that there is no such file.
+    #[error("no such file")]
+    Absent,
+    /// The file has more bytes than the limit that was given.
+    #[error("more than {limit} bytes")]
+    TooLong { limit: u64 },
+    /// The system said this at the opening or at a read.
+    #[error("{0}")]
+    Failed(io::Error),
+    /// Memory was refused.
+    #[error("out of memory")]
+    OutOfMemory,
+}
+
+/// A fetch that gave no bytes.
 #[derive(Debug, Drop)]
 pub struct FetchFailure {
     /// The name that was asked for, or None where memory was refused for a copy of it.
     pub name: Option<String>,
-    /// What the system said of it.
-    pub error: io::Error,
+    /// Why there were none.
+    pub cause: FetchCause,
 }
 
 /// A depot over the files of a runtime. It tells nothing of what they hold, and counts what failed.
@@ -54,7 +72,7 @@ impl<R> FileDepot<R> {
         }
     }
 
-    /// What made the last fetch fail that was answered so. It is for a person to read, and no contract sees it.
+    /// The last fetch that gave no bytes. It is for a person to read, and no contract sees it.
     pub fn failure(&self) -> Option<&FetchFailure> {
         self.failure.as_ref()
     }
@@ -77,11 +95,24 @@ impl<R: Files> Depot for FileDepot<R> {
         let mut file = CountedFile::new(fs::open(&self.rt, name), self.counts);
         let fetched = read_whole(alloc, &mut file, limit);
         self.counts = file.counts();
-        if let Some(error) = file.failure() {
+        if let Err(fault) = &fetched {
             let name = String::from_str(alloc, name).ok();
-            self.failure = Some(FetchFailure { name, error });
+            let cause = cause_of(*fault, limit, file.failure());
+            self.failure = Some(FetchFailure { name, cause });
         }
         fetched
+    }
+}
+
+/// Why a fetch was answered with a fault, where the limit was this and the system said that of a failure.
+fn cause_of(fault: FetchFault, limit: u64, failure: Option<io::Error>) -> FetchCause
+    requires { fault ≡ FetchFault.Failed → IsSome failure }
+{
+    match fault {
+        FetchFault::Absent => FetchCause::Absent,
+        FetchFault::TooLong => FetchCause::TooLong { limit },
+        FetchFault::Failed => FetchCause::Failed(failure.unwrap()),
+        FetchFault::OutOfMemory => FetchCause::OutOfMemory,
     }
 }
 

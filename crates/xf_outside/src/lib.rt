@@ -16,7 +16,7 @@ mod sink;
 mod std_sink;
 
 pub use depot::{Depot, FetchFault};
-pub use file_depot::{FetchFailure, FileDepot};
+pub use file_depot::{FetchCause, FetchFailure, FileDepot};
 pub use memory_depot::MemoryDepot;
 pub use memory_sink::MemorySink;
 pub use sink::{PutFault, Sink};

@@ -1,5 +1,6 @@
 //! Each depot and sink once, with calls that fail and what is kept of their causes.
 use super::*;
+use std::alloc::AllocError;
 use std::fmt::Display;
 use std::io::ErrorKind;
 use std::test::Fail;
@@ -59,40 +60,55 @@ fn memory_sink_keeps(rt: HostRuntime) -> Result<(), Fail> {
     Ok(())
 }
 
+/// The words for the last fetch that gave no bytes, or none where there was none.
+fn told_cause<R>(rt: &HostRuntime, depot: &FileDepot<R>) -> Result<String, AllocError> {
+    match depot.failure() {
+        Some(failure) => {
+            let name = failure.name.as_deref().unwrap_or("?");
+            format!(in rt.alloc(); "{name}: {}", failure.cause)
+        }
+        None => Ok(String::new(rt.alloc())),
+    }
+}
+
 #[test]
 fn file_depot_reads(rt: HostRuntime) -> Result<(), Fail> {
-    let name = "xf_outside_fetched.bin";
-    fs::write(&rt, name, "fetched")?;
+    let file = "xf_outside_fetched.bin";
+    fs::write(&rt, file, "fetched")?;
     let mut depot = FileDepot::new(&rt);
     let table = [
-        ("all bytes", name, 7, Ok(7)),
-        ("one byte too long", name, 6, Err(FetchFault::TooLong)),
+        (file, 7, Ok(7), ""),
         (
-            "no such file",
-            "xf_outside_absent.bin",
+            file,
+            6,
+            Err(FetchFault::TooLong),
+            "xf_outside_fetched.bin: more than 6 bytes",
+        ),
+        (
+            "absent.bin",
             7,
             Err(FetchFault::Absent),
+            "absent.bin: no such file",
         ),
-        ("no name", "", 7, Err(FetchFault::Absent)),
+        ("", 7, Err(FetchFault::Absent), ": no such file"),
         (
-            "a file as a folder",
-            "xf_outside_fetched.bin/x",
+            ".",
             7,
             Err(FetchFault::Failed),
+            ".: Is a directory (os error 21)",
         ),
-        ("a folder", ".", 7, Err(FetchFault::Failed)),
     ];
-    assert!(rt; depot.failure().is_none());
-    for (shows, name, limit, want) in table {
+    for (name, limit, want, cause) in table {
         assert!(rt;
             fetched_len(&rt, &mut depot, name, limit) == want,
-            "{shows}"
+            "at {name} {limit}"
+        );
+        assert!(rt;
+            told_cause(&rt, &depot)?.as_str() == cause,
+            "the cause at {name} {limit}"
         );
     }
-    let failure = depot.failure().ok_or("no failure is kept")?;
-    assert_eq!(rt; failure.name.as_deref(), Some("."));
-    assert_eq!(rt; failure.error.kind(), ErrorKind::IsADirectory);
-    fs::remove_file(&rt, name)?;
+    fs::remove_file(&rt, file)?;
     Ok(())
 }
 
