@@ -12,7 +12,7 @@ mod report;
 #[cfg(test)]
 mod tests;
 
-use report::Ending;
+use report::message;
 use std::alloc::Global;
 use std::env;
 use std::io::{ErrorKind, IsTerminal};
@@ -31,24 +31,31 @@ fn main(rt: HostRuntime) -> ExitCode {
         Ok(words) => run(rt.alloc(), words.as_slice(), &mut depot, &mut sink),
         Err(OutOfMemory) => Status::Memory,
     };
-    let ending = Ending {
+    let board = board_of(&words);
+    let is_seen = rt.stdout().is_terminal();
+    let text = message(
+        rt.alloc(),
         status,
-        board: words
-            .as_ref()
-            .ok()
-            .and_then(|words| words.first())
-            .map(|word| word.as_str()),
-        fetch: depot.failure(),
-        put: sink.failure(),
-        is_seen: rt.stdout().is_terminal(),
-    };
-    tell(&rt, ending.message(rt.alloc()));
+        is_seen,
+        board,
+        depot.failure(),
+        sink.failure(),
+    );
+    tell(&rt, text);
     ExitCode::from(code_of(status))
 }
 
-/// Tells a person a message. That it cannot be written changes nothing.
-fn tell(rt: &HostRuntime, message: Result<Vec<u8>, OutOfMemory>) {
-    let _ = match message {
+/// The board's name, or an empty text where there are no words.
+fn board_of(words: &Result<Vec<String>, OutOfMemory>) -> &str {
+    match words {
+        Ok(words) => words.first().map_or("", String::as_str),
+        Err(OutOfMemory) => "",
+    }
+}
+
+/// Tells a person a text. That it cannot be written changes nothing.
+fn tell(rt: &HostRuntime, text: Result<Vec<u8>, OutOfMemory>) {
+    let _ = match text {
         Ok(text) => rt.stderr().write_all(text.as_slice()),
         Err(OutOfMemory) => rt.stderr().write_all(b"xf: out of memory\n"),
     };

@@ -9,54 +9,54 @@ use xf_app::Status;
 use xf_base::{OutOfMemory, put_word};
 use xf_outside::FetchFailure;
 
-/// How a run ended, and what is known of it.
-#[derive(Clone, Copy)]
-pub struct Ending<'a> {
-    pub status: Status,
-    /// The name of the board, where there is one.
-    pub board: Option<&'a str>,
-    /// The last fetch that gave no bytes.
-    pub fetch: Option<&'a FetchFailure>,
-    /// The error of the last put that failed.
-    pub put: Option<io::Error>,
-    /// Whether the person has standard output before them. What stands there is not said twice.
-    pub is_seen: bool,
+const USAGE: &[u8] =
+    b"xf: usage: xf [--view page|data] [--demo N] BOARD SESSION, where BOARD is a CSV file whose name ends in .csv\n";
+
+const BOARD_RULE: &[u8] = b"xf: BOARD is a CSV file whose name ends in .csv\n";
+
+/// The line for a run that ended with a status, in the manner of Unix tools, or nothing. `fetch` is the last fetch that
+/// gave no bytes, and `put` the error of the last put that failed. `is_seen` says that the person has standard output
+/// before them: what stands there is not said twice.
+pub fn message(
+    alloc: Global,
+    status: Status,
+    is_seen: bool,
+    board: &str,
+    fetch: Option<&FetchFailure>,
+    put: Option<io::Error>,
+) -> Result<Vec<u8>, OutOfMemory>
+    ensures { IfOk result (λ text. (name : List ℕ) × (cause : List ℕ) × (text.items ≡ report_line status is_seen name cause)) }
+{
+    let name = name_of(status, board, fetch);
+    let cause = cause_of(alloc, status, fetch, put)?;
+    line(alloc, status, is_seen, name, cause.as_str())
 }
 
-impl Ending<'_> {
-    /// The line for it in the manner of Unix tools, or nothing.
-    pub fn message(&self, alloc: Global) -> Result<Vec<u8>, OutOfMemory>
-        ensures { IfOk result (λ text. (name : List ℕ) × (cause : List ℕ) × (text.items ≡ report_line self.now.status self.now.is_seen name cause)) }
-    {
-        let cause = self.cause(alloc)?;
-        line(
-            alloc,
-            self.status,
-            self.is_seen,
-            self.name(),
-            cause.as_str(),
-        )
+/// The name of the file at which the run ended.
+fn name_of<'a>(status: Status, board: &'a str, fetch: Option<&'a FetchFailure>) -> &'a str {
+    match fetch {
+        Some(failure) if status != Status::BoardRefused => match &failure.name {
+            Some(name) => name.as_str(),
+            None => "file",
+        },
+        _ => board,
     }
+}
 
-    /// The name of the file that ended the run.
-    fn name(&self) -> &str {
-        let fetched = self.fetch.and_then(|failure| failure.name.as_deref());
-        match self.status {
-            Status::BoardRefused => self.board.unwrap_or("the board"),
-            _ => fetched.unwrap_or("a file"),
+/// Why the run could not go on, or nothing where the status says all.
+fn cause_of(
+    alloc: Global,
+    status: Status,
+    fetch: Option<&FetchFailure>,
+    put: Option<io::Error>,
+) -> Result<String, AllocError> {
+    match (status, fetch, put) {
+        (Status::BoardRefused, _, _) => {
+            String::from_str(alloc, "board refused; standard output says why")
         }
-    }
-
-    /// Why the run could not go on, or nothing where the status says all.
-    fn cause(&self, alloc: Global) -> Result<String, AllocError> {
-        match (self.status, self.fetch, self.put) {
-            (Status::BoardRefused, _, _) => {
-                String::from_str(alloc, "board refused; standard output says why")
-            }
-            (Status::WriteFault, _, Some(error)) => format!(in alloc; "{error}"),
-            (_, Some(failure), _) => format!(in alloc; "{}", failure.cause),
-            _ => Ok(String::new(alloc)),
-        }
+        (Status::WriteFault, _, Some(error)) => format!(in alloc; "{error}"),
+        (_, Some(failure), _) => format!(in alloc; "{}", failure.cause),
+        _ => Ok(String::new(alloc)),
     }
 }
 
@@ -73,17 +73,11 @@ fn line(
     let text = match (status, is_seen) {
         (Status::Done | Status::DoneWithRefusals, _)
         | (Status::BoardRefused | Status::Absent | Status::TooLong, true) => Vec::new(alloc),
-        (Status::Usage, true) => Vec::from_slice(
-            alloc,
-            b"xf: BOARD is a CSV file whose name ends in .csv\n",
-        )?,
-        (Status::Usage, false) => Vec::from_slice(
-            alloc,
-            b"xf: usage: xf [--view page|data] [--demo N] BOARD SESSION, where BOARD is a CSV file whose name ends in .csv\n",
-        )?,
-        (Status::BoardRefused | Status::Absent | Status::TooLong, false) => named(
-            alloc, b"xf: ", name, cause,
-        )?,
+        (Status::Usage, true) => Vec::from_slice(alloc, BOARD_RULE)?,
+        (Status::Usage, false) => Vec::from_slice(alloc, USAGE)?,
+        (Status::BoardRefused | Status::Absent | Status::TooLong, false) => {
+            named(alloc, b"xf: ", name, cause)?
+        }
         (Status::ReadFault, _) => named(alloc, b"xf: cannot read ", name, cause)?,
         (Status::WriteFault, _) => caused(alloc, b"xf: cannot write", cause)?,
         (Status::Memory, _) => Vec::from_slice(alloc, b"xf: out of memory\n")?,
@@ -119,3 +113,6 @@ fn put_cause(text: &mut Vec<u8>, cause: &str) -> Result<(), OutOfMemory>
     text.push(b'\n')?;
     Ok(())
 }
+
+#[cfg(test)]
+mod tests;
