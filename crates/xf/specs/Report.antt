@@ -1,8 +1,8 @@
 -- What a person is told on standard error.
 use Rattle.std.specs.Prelude.{ℕ, Bool, true, false, List, [], ◌∷◌, ◌++◌, codes}
-use Rattle.xf_app.specs.declared.program.Status.{Status}
-use Rattle.xf_app.specs.declared.program.Status.TheVariants as status
-use Rattle.xf_base.specs.Words.{word_text}
+use Rattle.xf_app.specs.declared.status.Status.{Status}
+use Rattle.xf_app.specs.declared.status.Status.TheVariants as status
+use Rattle.xf_base.specs.Word.{word_text}
 
 -- the name of a file, and what came of it
 abbrev pub caused_line : List ℕ → List ℕ → List ℕ

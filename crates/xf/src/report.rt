@@ -1,7 +1,7 @@
 //! What a person is told on standard error of a run that did not end well.
 ghost use Rattle.std.specs.Prelude.{◌≡◌, ℕ, ◌∷◌, [], ◌++◌, List, codes, IfOk, OnOk};
 ghost use Rattle.xf.specs.Report.{report_line};
-ghost use Rattle.xf_base.specs.Words.{word_text};
+ghost use Rattle.xf_base.specs.Word.{word_text};
 
 use std::alloc::{AllocError, Global};
 use std::io;

@@ -236,13 +236,7 @@ struct FullDepot;
 impl Depot for FullDepot {
     ghost use Rattle.std.specs.Prelude.{None};
 
-    ghost files = { λ _. None };
-
-    ghost faults = { λ _. 0 };
-
-    ghost misses = { λ _. 0 };
-
-    ghost taken = { λ _. 0 };
+    ghost account = { λ _. record { files = None; faults = 0; misses = 0; taken = 0 } };
 
     fn fetch(&mut self, _alloc: Global, _name: &str, _limit: u64) -> Result<Vec<u8>, FetchFault> {
         Err(FetchFault::OutOfMemory)
