@@ -1,5 +1,5 @@
 -- How a number with a fixed number of decimals is read and written.
-use Rattle.std.specs.Prelude.{ℕ, ◌+◌, ◌-◌, ◌*◌, ◌^◌, ◌==◌, nat_lt, Bool, false, not, ◌||◌, if◌then◌else◌, ℤ, pos, neg_ℤ, nat_abs, int_lt, List, [], ◌∷◌, ◌++◌, length, take, drop, replicate, fold, decimal, Result, Ok, Err}
+use Rattle.std.specs.Prelude.{ℕ, ◌+◌, ◌-◌, ◌*◌, ◌==◌, nat_lt, Bool, false, not, ◌||◌, if◌then◌else◌, ℤ, pos, neg_ℤ, nat_abs, int_lt, List, [], ◌∷◌, ◌++◌, length, take, drop, replicate, fold, decimal, Result, Ok, Err}
 use Rattle.std.specs.List.{list_all, list_any, prefix_len, suffix_len, before_first, after_first}
 use Rattle.std.specs.Char.{is_ascii_digit}
 use Rattle.xf_base.specs.declared.fixed.TheConstants.{GREATEST_NUMBER}

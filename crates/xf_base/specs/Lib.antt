@@ -4,5 +4,6 @@ pub mod Bounds
 pub mod Cell
 pub mod Schema
 pub mod Fixed
+pub mod Date
 pub mod LimitsFields
 pub mod Word

@@ -1,6 +1,8 @@
 //! What no clause says: how texts are written and read, by values from outside.
 ghost use Rattle.std.specs.Prelude.{◌≡◌, ◌<◌};
 
+mod date;
+
 use crate::{
     Atom, Cell, Column, ColumnKind, Key, Limits, ListOf, NumberRefusal, OutOfMemory, Row, RowList,
     Schema, Steps, Text, TextList, put_fixed, put_number, put_word, read_fixed,

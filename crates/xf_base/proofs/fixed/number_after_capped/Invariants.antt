@@ -1,4 +1,4 @@
-use Rattle.std.proofs.Common.{◌≡◌, ◌+◌, min, take}
+use Rattle.std.proofs.Common.{◌≡◌, min, take}
 use Rattle.xf_base.specs.Fixed.{number_after}
 use Rattle.xf_base.proofs.fixed.number_after_capped.Given as goal
 

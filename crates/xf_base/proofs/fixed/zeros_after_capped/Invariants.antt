@@ -1,4 +1,4 @@
-use Rattle.std.proofs.Common.{◌≡◌, ◌+◌, min, replicate}
+use Rattle.std.proofs.Common.{◌≡◌, min, replicate}
 use Rattle.xf_base.specs.Fixed.{number_after}
 use Rattle.xf_base.proofs.fixed.zeros_after_capped.Given as goal
 
