@@ -1,5 +1,6 @@
 pub mod Key
 pub mod KeyOrder
+pub mod Kind
 pub mod Bounds
 pub mod Cell
 pub mod Schema
