@@ -1,5 +1,9 @@
+pub mod DayParts
+pub mod DaysOfDates
 pub mod EqualKeys
 pub mod NumberWords
+pub mod ReadBackDates
 pub mod ReadDates
 pub mod ReadNumbers
+pub mod WriteDates
 pub mod WriteNumbers
