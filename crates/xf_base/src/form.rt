@@ -1,8 +1,13 @@
 //! Forms of keys: how they are written and read.
-ghost use Rattle.std.specs.Prelude.{◌≡◌};
+ghost use Rattle.std.specs.Prelude.{◌≡◌, ◌∷◌, ◌++◌, take, vec_len, OnOk, OnErr};
 ghost use Rattle.xf_base.specs.Kind.{kind_of_atom_form, kind_of_key_form};
+ghost use Rattle.xf_base.specs.Form.{number_text, atom_text, form_of_one, form_of_first, form_of_second, key_text};
 
+use crate::date::put_date;
+use crate::fixed::put_fixed;
+use crate::key::{Atom, Key};
 use crate::kind::{AtomKind, KeyKind};
+use crate::out_of_memory::OutOfMemory;
 
 /// How a part of a key is written.
 #[derive(Clone, Copy, Debug, PartialEq, Eq)]
@@ -45,5 +50,89 @@ impl KeyForm {
             },
             KeyForm::Pair(first, second) => KeyKind::Pair(first.kind(), second.kind()),
         }
+    }
+
+    /// The form of a key that is one part.
+    fn of_one(&self) -> AtomForm
+        ensures { result ≡ form_of_one self.now }
+    {
+        match self {
+            KeyForm::One(form) => *form,
+            KeyForm::Pair(_, _) => AtomForm::Text,
+        }
+    }
+
+    /// The forms of the parts of a pair.
+    fn of_pair(&self) -> (AtomForm, AtomForm)
+        ensures first { result.0 ≡ form_of_first self.now }
+        ensures second { result.1 ≡ form_of_second self.now }
+    {
+        match self {
+            KeyForm::One(_) => (AtomForm::Text, AtomForm::Text),
+            KeyForm::Pair(first, second) => (*first, *second),
+        }
+    }
+}
+
+/// Appends a key as its form says: a number by its decimals or as a date, a text as its bytes, a pair with `|`
+/// between its parts. Where a number meets the form of a text, or the key's shape differs from the form's, a number
+/// is written as a whole number.
+pub fn put_key(out: &mut Vec<u8>, form: &KeyForm, key: &Key) -> Result<(), OutOfMemory>
+    ensures ok { OnOk result (out.new.items ≡ out.old.items ++ key_text form.now key.now) }
+    ensures err { OnErr result (out.new.items ≡ out.old.items) }
+{
+    match key {
+        Key::Num(number) => put_number_as(out, form.of_one(), *number),
+        Key::Text(text) => {
+            out.extend_from_slice(text.as_str().as_bytes())?;
+            Ok(())
+        }
+        Key::Pair(first, second) => {
+            let start = out.len();
+            let appended = append_pair(out, form.of_pair(), first, second);
+            if appended.is_err() {
+                out.truncate(start);
+            }
+            appended
+        }
+    }
+}
+
+/// Appends a pair, or only its front where memory is refused.
+fn append_pair(
+    out: &mut Vec<u8>,
+    forms: (AtomForm, AtomForm),
+    first: &Atom,
+    second: &Atom,
+) -> Result<(), OutOfMemory>
+    ensures ok { OnOk result (out.new.items ≡ out.old.items ++ (atom_text forms.0 first.now ++ 124 ∷ atom_text forms.1 second.now)) }
+    ensures err { OnErr result (take (vec_len out.old) out.new.items ≡ out.old.items) }
+{
+    put_atom(out, forms.0, first)?;
+    out.push(b'|')?;
+    put_atom(out, forms.1, second)
+}
+
+fn put_atom(out: &mut Vec<u8>, form: AtomForm, atom: &Atom) -> Result<(), OutOfMemory>
+    ensures ok { OnOk result (out.new.items ≡ out.old.items ++ atom_text form atom.now) }
+    ensures err { OnErr result (out.new.items ≡ out.old.items) }
+{
+    match atom {
+        Atom::Num(number) => put_number_as(out, form, *number),
+        Atom::Text(text) => {
+            out.extend_from_slice(text.as_str().as_bytes())?;
+            Ok(())
+        }
+    }
+}
+
+fn put_number_as(out: &mut Vec<u8>, form: AtomForm, number: i64) -> Result<(), OutOfMemory>
+    ensures ok { OnOk result (out.new.items ≡ out.old.items ++ number_text form number) }
+    ensures err { OnErr result (out.new.items ≡ out.old.items) }
+{
+    match form {
+        AtomForm::Fixed(decimals) => put_fixed(out, i128::from(number), decimals),
+        AtomForm::Date => put_date(out, number),
+        AtomForm::Text => put_fixed(out, i128::from(number), 0),
     }
 }
