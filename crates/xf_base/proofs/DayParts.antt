@@ -1,7 +1,7 @@
 -- A date's day has the date's year, month and day of the month, and so the date's text.
 use Rattle.std.proofs.Common.{◌≡◌, ℕ, zero, suc, ◌+◌, ◌-◌, ◌<◌, ◌≤◌, Bool, true, false, cond, ℤ, pos, ◌-ℤ◌, ◌<ℤ◌, int_le, List, ◌∷◌, ◌++◌, decimal, count_by, zero-add, refl, ap, ◌∙◌, arith, rules, ⊎_elim}
 use Rattle.std.specs.List.{range_with_len}
-use Rattle.std.proofs.lemmas.Bool.{cases_lt}
+use Rattle.std.proofs.lemmas.Bool.{and_parts, cases_lt}
 use Rattle.std.proofs.lemmas.List.Sums.{sum_by-cons}
 use Rattle.std.proofs.lemmas.Int.{ints}
 use Rattle.jiff_core.specs.declared.civil.date.Date.{Date}
@@ -10,6 +10,7 @@ use Rattle.jiff_core.proofs.DateLemmas.{civil}
 use Rattle.jiff_core.specs.Calendar.{IsCivilDate, IsEpochDay, day_count, days_from_civil}
 use Rattle.jiff_core.proofs.SignedLemmas.{signed_arith}
 use Rattle.jiff_core.proofs.CalendarLemmas.{days_from_civil-day_count, days_of_months_mono, day_count-day_of_year, day_count-later_year, day_count-lt_year, day_count-lt_month, day_count-day}
+use Rattle.xf_base.specs.declared.date.TheConstants.{FIRST_DAY, LAST_DAY}
 use Rattle.xf_base.specs.Fixed.{with_zeros, fixed_text}
 use Rattle.xf_base.specs.Date.{year_of, month_of, day_of_month, is_day, day_text}
 use Rattle.xf_base.specs.Schema.{IsDay}
@@ -81,6 +82,11 @@ day_of_month-date year month day civil =
 -- what is a day of the years 0000 to 9999 passes the test, and nothing else does
 pub is_day-true : (day : ℤ) → IsDay day → is_day day ≡ true
 is_day-true day within = grind (arith, ints)
+
+pub is_day-IsDay : (day : ℤ) → is_day day ≡ true → IsDay day
+is_day-IsDay day is =
+    let parts = and_parts (int_le FIRST_DAY day) (int_le day LAST_DAY) is in
+    (grind (arith, ints, parts.0), grind (arith, ints, parts.1))
 
 pub is_day-false : (day : ℤ) → (IsDay day → ⊥) → is_day day ≡ false
 is_day-false day outside = grind (arith, ints)

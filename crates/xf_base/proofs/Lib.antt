@@ -5,5 +5,7 @@ pub mod NumberWords
 pub mod ReadBackDates
 pub mod ReadDates
 pub mod ReadNumbers
+pub mod Utf8Texts
+pub mod Utf8Words
 pub mod WriteDates
 pub mod WriteNumbers

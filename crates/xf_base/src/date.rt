@@ -1,5 +1,5 @@
 //! Civil dates, kept as days from 1970-01-01 on.
-ghost use Rattle.std.specs.Prelude.{◌≡◌, ◌<◌, ◌≤◌, ◌^◌, ◌+◌, ◌%◌, ◌/◌, ◌∷◌, ◌++◌, true, decimal, length, IfOk, OnOk, OnErr};
+ghost use Rattle.std.specs.Prelude.{◌≡◌, ◌<◌, ◌≤◌, ◌^◌, ◌+◌, ◌%◌, ◌/◌, ◌∷◌, ◌++◌, true, decimal, length, IfOk, OnOk, OnErr, IsUtf8};
 ghost use Rattle.std.specs.List.{list_all};
 ghost use Rattle.std.specs.Char.{is_ascii_digit};
 ghost use Rattle.xf_base.specs.Date.{is_date_form, day_of, date_of, day_text};
@@ -85,6 +85,7 @@ fn day_of(year: u16, month: u8, day: u8) -> Result<i64, DateRefusal>
 pub fn put_date(out: &mut Vec<u8>, day: i64) -> Result<(), OutOfMemory>
     ensures ok { OnOk result (out.new.items ≡ out.old.items ++ day_text day) }
     ensures err { OnErr result (out.new.items ≡ out.old.items) }
+    ensures utf8 { IsUtf8 (day_text day) }
 {
     match civil::Date::from_unix_epoch_day(day) {
         Ok(date) if date.year >= 0 => {

@@ -1,5 +1,6 @@
 //! Forms of keys: how they are written and read.
-ghost use Rattle.std.specs.Prelude.{◌≡◌, ◌∷◌, ◌++◌, take, vec_len, OnOk, OnErr};
+ghost use Rattle.std.specs.Prelude.{◌≡◌, ◌∷◌, ◌++◌, take, vec_len, OnOk, OnErr, IsUtf8};
+ghost use Rattle.xf_base.specs.Key.{IsPlain};
 ghost use Rattle.xf_base.specs.Kind.{kind_of_atom_form, kind_of_key_form};
 ghost use Rattle.xf_base.specs.Form.{number_text, atom_text, form_of_one, form_of_first, form_of_second, key_text};
 
@@ -80,6 +81,7 @@ impl KeyForm {
 pub fn put_key(out: &mut Vec<u8>, form: &KeyForm, key: &Key) -> Result<(), OutOfMemory>
     ensures ok { OnOk result (out.new.items ≡ out.old.items ++ key_text form.now key.now) }
     ensures err { OnErr result (out.new.items ≡ out.old.items) }
+    ensures utf8 { IsPlain key.now → IsUtf8 (key_text form.now key.now) }
 {
     match key {
         Key::Num(number) => put_number_as(out, form.of_one(), *number),

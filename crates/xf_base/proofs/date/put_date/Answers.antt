@@ -7,6 +7,7 @@ use Rattle.jiff_core.specs.Date.{epoch_day}
 use Rattle.xf_base.specs.Date.{day_text}
 use Rattle.xf_base.specs.Fixed.{fixed_text}
 use Rattle.xf_base.proofs.DayParts.{day_text-date, day_text-before, day_text-outside}
+use Rattle.xf_base.proofs.Utf8Texts.{IsUtf8-day_text}
 use Rattle.xf_base.proofs.date.put_date.Goals as goal
 use Rattle.xf_base.proofs.date.put_date.Goals.{in_default-via-in-Ok+else-date-ge0, in_default-via-in_default}
 
@@ -36,3 +37,14 @@ returns-in_default-clause-ok c =
     let number : cast_signed w128 (cast_unsigned w128 c.from.result) ≡ c.args.day = omega (arith, ints, c.from.ensures) in
     let text : fixed_text (cast_signed w128 (cast_unsigned w128 c.from.result)) 0 ≡ day_text c.args.day = rw number (sym (as_number c)) in
     on_ok_weaker c.put_fixed.result (λ items. rw text at items) c.put_fixed.ensures.ok
+
+pub returns-in_err-extend_from_slice-in-Ok-clause-utf8 :
+    goal.returns-in_err-extend_from_slice-in-Ok-clause-utf8
+returns-in_err-extend_from_slice-in-Ok-clause-utf8 c = IsUtf8-day_text c.args.day c.ranges.day
+
+pub returns-in_ok-extend_from_slice-in-Ok-clause-utf8 :
+    goal.returns-in_ok-extend_from_slice-in-Ok-clause-utf8
+returns-in_ok-extend_from_slice-in-Ok-clause-utf8 c = IsUtf8-day_text c.args.day c.ranges.day
+
+pub returns-in_default-clause-utf8 : goal.returns-in_default-clause-utf8
+returns-in_default-clause-utf8 c = IsUtf8-day_text c.args.day c.ranges.day
