@@ -7,5 +7,6 @@ pub mod ReadDates
 pub mod ReadNumbers
 pub mod Utf8Texts
 pub mod Utf8Words
+pub mod Words
 pub mod WriteDates
 pub mod WriteNumbers

@@ -1,14 +1,17 @@
 //! Forms of keys: how they are written and read.
-ghost use Rattle.std.specs.Prelude.{◌≡◌, ◌∷◌, ◌++◌, take, vec_len, OnOk, OnErr, IsUtf8};
+ghost use Rattle.std.specs.Prelude.{◌≡◌, ◌==◌, ◌∷◌, ◌++◌, take, vec_len, is_some, IfSome, IfOk, OnOk, OnErr, IsUtf8};
+ghost use Rattle.std.specs.List.{list_any, before_first, after_first};
 ghost use Rattle.xf_base.specs.Key.{IsPlain};
 ghost use Rattle.xf_base.specs.Kind.{kind_of_atom_form, kind_of_key_form};
-ghost use Rattle.xf_base.specs.Form.{number_text, atom_text, form_of_one, form_of_first, form_of_second, key_text};
+ghost use Rattle.xf_base.specs.Form.{number_text, atom_text, form_of_one, form_of_first, form_of_second, key_text, number_under, atom_of_word, key_of_word};
 
-use crate::date::put_date;
-use crate::fixed::put_fixed;
+use crate::date::{put_date, read_date};
+use crate::fixed::{put_fixed, read_fixed};
 use crate::key::{Atom, Key};
 use crate::kind::{AtomKind, KeyKind};
 use crate::out_of_memory::OutOfMemory;
+use crate::text::Text;
+use std::alloc::Global;
 
 /// How a part of a key is written.
 #[derive(Clone, Copy, Debug, PartialEq, Eq)]
@@ -136,5 +139,54 @@ fn put_number_as(out: &mut Vec<u8>, form: AtomForm, number: i64) -> Result<(), O
         AtomForm::Fixed(decimals) => put_fixed(out, i128::from(number), decimals),
         AtomForm::Date => put_date(out, number),
         AtomForm::Text => put_fixed(out, i128::from(number), 0),
+    }
+}
+
+/// The key that a word names under a form: a number where the form is of numbers or dates and the word reads as one,
+/// else a text. Under the form of a pair the word is cut at its first `|`; a word without one is a text.
+pub fn key_of_word(alloc: Global, form: &KeyForm, word: &Text) -> Result<Key, OutOfMemory>
+    ensures { IfOk result (λ key. key ≡ key_of_word form.now word.now) }
+{
+    match form {
+        KeyForm::One(form) => Ok(match atom_of_word(alloc, *form, word.as_str())? {
+            Atom::Num(number) => Key::Num(number),
+            Atom::Text(text) => Key::Text(text),
+        }),
+        KeyForm::Pair(first, second) => match split_at_bar(word.as_str()) {
+            Some((front, back)) => Ok(Key::Pair(
+                atom_of_word(alloc, *first, front)?,
+                atom_of_word(alloc, *second, back)?,
+            )),
+            None => Ok(Key::Text(word.copy(alloc)?)),
+        },
+    }
+}
+
+/// What stands before the first `|` and what stands after it; None where a word has none.
+fn split_at_bar(word: &str) -> Option<(&str, &str)>
+    ensures bar { is_some result ≡ list_any (λ b. b == 124) word.now }
+    ensures first { IfSome result (λ parts. parts.0.now ≡ before_first (λ b. b == 124) word.now) }
+    ensures second { IfSome result (λ parts. parts.1.now ≡ after_first (λ b. b == 124) word.now) }
+{
+    word.split_once('|')
+}
+
+fn atom_of_word(alloc: Global, form: AtomForm, word: &str) -> Result<Atom, OutOfMemory>
+    ensures { IfOk result (λ atom. atom ≡ atom_of_word form word.now) }
+{
+    Ok(match number_under(form, word) {
+        Some(number) => Atom::Num(number),
+        None => Atom::Text(Text::of(alloc, word)?),
+    })
+}
+
+/// The number that a word writes under a form, where it writes one.
+fn number_under(form: AtomForm, word: &str) -> Option<i64>
+    ensures { result ≡ number_under form word.now }
+{
+    match form {
+        AtomForm::Fixed(decimals) => read_fixed(word.as_bytes(), decimals).ok(),
+        AtomForm::Date => read_date(word.as_bytes()).ok(),
+        AtomForm::Text => None,
     }
 }

@@ -30,7 +30,7 @@ pub use cell::{Cell, TextList};
 pub use column::{Column, ColumnKind};
 pub use date::{DateRefusal, FIRST_DAY, LAST_DAY, put_date, read_date};
 pub use fixed::{GREATEST_NUMBER, NumberRefusal, put_fixed, read_fixed};
-pub use form::{AtomForm, KeyForm, put_key};
+pub use form::{AtomForm, KeyForm, key_of_word, put_key};
 pub use key::{Atom, Key, KeyList};
 pub use kind::{AtomKind, KeyKind};
 pub use laws::texts_read_back;

@@ -1,5 +1,5 @@
 //! Keys as texts, and back.
-use crate::{Atom, AtomForm, Key, KeyForm, OutOfMemory, Text, put_key};
+use crate::{Atom, AtomForm, Key, KeyForm, OutOfMemory, Text, key_of_word, put_key};
 use std::alloc::Global;
 use std::test::Fail;
 
@@ -24,7 +24,11 @@ fn key_at(alloc: Global, place: usize) -> Result<Key, OutOfMemory> {
         4 => Key::Text(Text::of(alloc, "")?),
         5 => Key::Pair(atom("a|b")?, Atom::Num(1)),
         6 => Key::Pair(Atom::Num(0), Atom::Num(-150)),
-        _ => Key::Pair(Atom::Num(1), atom("b")?),
+        7 => Key::Pair(Atom::Num(1), atom("b")?),
+        8 => Key::Text(Text::of(alloc, "7")?),
+        9 => Key::Text(Text::of(alloc, "2001-02-29")?),
+        10 => Key::Text(Text::of(alloc, "1.25")?),
+        _ => Key::Pair(atom("a")?, atom("\u{e9}|c")?),
     })
 }
 
@@ -49,6 +53,31 @@ fn writes_keys(rt: HostRuntime) -> Result<(), Fail> {
         let mut out = Vec::new(rt.alloc());
         put_key(&mut out, &form, &key_at(rt.alloc(), place)?)?;
         assert_eq!(rt; out.as_slice(), want.as_bytes(), "at {want}");
+    }
+    Ok(())
+}
+
+#[test]
+fn reads_words(rt: HostRuntime) -> Result<(), Fail> {
+    let cases = [
+        (NUMBER, "-.5", 0),
+        (NUMBER, " -0.5 ", 0),
+        (NUMBER, "1.25", 10),
+        (DATE, "2001-01-14", 1),
+        (DATE, "2001-02-29", 9),
+        (TEXT, "7", 8),
+        (TEXT, "a|b", 3),
+        (NUMBER, "a|b", 3),
+        (DATE, "", 4),
+        (DATE_AND_NUMBER, "1970-01-01|-1.5", 6),
+        (DATE_AND_NUMBER, "7", 8),
+        (DATE_AND_NUMBER, "a|\u{e9}|c", 11),
+        (TEXT_AND_DATE, "a|\u{e9}|c", 11),
+        (KeyForm::Pair(AtomForm::Fixed(0), AtomForm::Text), "1|b", 7),
+    ];
+    for (form, word, place) in cases {
+        let key = key_of_word(rt.alloc(), &form, &Text::of(rt.alloc(), word)?)?;
+        assert!(rt; key == key_at(rt.alloc(), place)?, "at {word:?}");
     }
     Ok(())
 }
