@@ -16,6 +16,7 @@ mod kind;
 mod laws;
 mod limits;
 mod list_of;
+mod misfit;
 mod number;
 mod out_of_memory;
 mod row;
