@@ -15,6 +15,7 @@ mod key;
 mod kind;
 mod limits;
 mod list_of;
+mod misfit;
 mod number;
 mod out_of_memory;
 mod row;
