@@ -33,7 +33,7 @@ impl Model for Cross {
 
     ghost view = { λ cross. record { columns = cross.table.columns; limits = cross.table.limits; rows = cross.table.rows; ranges = take (length cross.table.columns) cross.ranges } };
 
-    ghost invariant = { λ cross. IsCross cross.table.columns cross.table.rows };
+    ghost invariant = { λ cross. IsCross cross.table.columns cross.table.limits cross.table.rows };
 }
 
 impl Cross {
@@ -87,7 +87,7 @@ impl Cross {
         let columns = self.schema().len() as u64;
         let (have, more) = (have * columns, more * columns);
         let limit = self.table.limits().entries;
-        if have + more > limit {
+        if more > limit - have {
             return Some(AddRefusal::TooManyEntries { have, more, limit });
         }
         None

@@ -38,8 +38,8 @@ parts true much first second third none = absurd cc
 parts false true first second third none = absurd cc
 parts false false first second third none = (refl, refl, none)
 
--- rows of the columns after others
-all-append : {X : Type 0} (P : X → Type 0) (xs ys : List X) → AllByRecursion P xs → AllByRecursion P ys → AllByRecursion P (xs ++ ys)
+-- what holds of each of two lists holds of one after the other
+pub all-append : {X : Type 0} (P : X → Type 0) (xs ys : List X) → AllByRecursion P xs → AllByRecursion P ys → AllByRecursion P (xs ++ ys)
 all-append P [] ys all more = more
 all-append P (x ∷ xs) ys all more = (all.0, all-append P xs ys all.1 more)
 
