@@ -1,8 +1,10 @@
 pub mod Key
 pub mod KeyOrder
+pub mod Kind
 pub mod Bounds
 pub mod Cell
 pub mod Schema
 pub mod Fixed
+pub mod Date
 pub mod LimitsFields
 pub mod Word

@@ -1,8 +1,9 @@
 -- What a column of a schema keeps: sound numbers of decimals and separators, and a blank that is a cell of it.
-use Rattle.std.specs.Prelude.{ℕ, ◌+◌, ◌-◌, ◌<◌, ◌≤◌, ℤ, pos, negsuc, neg_ℤ, ◌≤ℤ◌, List, length, sum_by, IfSome, ⊤}
+use Rattle.std.specs.Prelude.{ℕ, ◌+◌, ◌-◌, ◌<◌, ◌≤◌, ℤ, pos, neg_ℤ, ◌≤ℤ◌, List, length, sum_by, IfSome, ⊤}
 use Rattle.std.specs.List.{AllZip}
 use Rattle.std.specs.List.Sorted.{IsStrictlySortedBy}
 use Rattle.xf_base.specs.Key.{text_cmp}
+use Rattle.xf_base.specs.declared.date.TheConstants.{FIRST_DAY, LAST_DAY}
 use Rattle.xf_base.specs.declared.fixed.TheConstants.{GREATEST_NUMBER}
 use Rattle.xf_base.specs.declared.limits.TheConstants.Limits.{CELL_BYTES, CELL_VALUES}
 use Rattle.xf_base.specs.declared.cell.Cell.{Cell}
@@ -15,9 +16,9 @@ use Rattle.xf_base.specs.declared.column.Column.{Column}
 abbrev pub IsCellNumber : ℤ → Type 0
 IsCellNumber number = (neg_ℤ (pos (GREATEST_NUMBER)) ≤ℤ number) × (number ≤ℤ pos (GREATEST_NUMBER))
 
--- the days of the years 0000 to 9999, from 1970-01-01 on
+-- a day of the years 0000 to 9999
 abbrev pub IsDay : ℤ → Type 0
-IsDay day = (negsuc 719527 ≤ℤ day) × (day ≤ℤ pos 2932896)
+IsDay day = (FIRST_DAY ≤ℤ day) × (day ≤ℤ LAST_DAY)
 
 -- so many tags, ascending and distinct, of so many bytes with a separator between each two
 abbrev pub AreTags : List (List ℕ) → Type 0

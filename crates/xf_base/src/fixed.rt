@@ -2,8 +2,9 @@
 ghost use Rattle.std.specs.Prelude.{◌≡◌, ◌==◌, ◌+◌, ◌<◌, ◌++◌, not, ◌||◌, min, length, drop, replicate, take, vec_len, OnOk, OnErr};
 ghost use Rattle.std.specs.List.{list_all, list_any, before_first, after_first};
 ghost use Rattle.std.specs.Char.{is_ascii_digit};
-ghost use Rattle.xf_base.specs.Fixed.{without_start_blanks, without_end_blanks, is_negative, without_sign, number_after, units_of, read_digits, number_of, with_zeros, with_point, fixed_text};
+ghost use Rattle.xf_base.specs.Fixed.{is_negative, without_sign, number_after, units_of, read_digits, number_of, with_zeros, with_point, fixed_text};
 
+use crate::blank::without_blanks;
 use crate::out_of_memory::OutOfMemory;
 use itoa::Buffer;
 use thiserror::Error;
@@ -33,7 +34,7 @@ pub const GREATEST_NUMBER: u64 = 1_000_000_000_000_000;
 pub fn read_fixed(text: &[u8], decimals: u8) -> Result<i64, NumberRefusal>
     ensures { result ≡ number_of text.now decimals }
 {
-    let text = trim_end(trim_start(text));
+    let text = without_blanks(text);
     if text.is_empty() {
         return Err(NumberRefusal::Empty);
     }
@@ -41,26 +42,6 @@ pub fn read_fixed(text: &[u8], decimals: u8) -> Result<i64, NumberRefusal>
     let (whole, fraction) = split_at_point(digits);
     let number = read_digits(whole, fraction, decimals)? as i64;
     Ok(if is_negative { -number } else { number })
-}
-
-fn trim_start(text: &[u8]) -> &[u8]
-    ensures { result.now ≡ without_start_blanks text.now }
-{
-    let mut start = 0;
-    while start < text.len() && text[start] == b' ' {
-        start += 1;
-    }
-    &text[start..]
-}
-
-fn trim_end(text: &[u8]) -> &[u8]
-    ensures { result.now ≡ without_end_blanks text.now }
-{
-    let mut end = text.len();
-    while end > 0 && text[end - 1] == b' ' {
-        end -= 1;
-    }
-    &text[..end]
 }
 
 /// Whether a `-` stands in front, and what stands after the sign.
@@ -114,7 +95,7 @@ fn are_digits(whole: &[u8], fraction: &[u8]) -> bool
     whole.len() + fraction.len() > 0 && all_digits(whole) && all_digits(fraction)
 }
 
-fn all_digits(text: &[u8]) -> bool
+pub(crate) fn all_digits(text: &[u8]) -> bool
     ensures { result ≡ list_all is_ascii_digit text.now }
 {
     text.iter().all(u8::is_ascii_digit)
@@ -144,7 +125,7 @@ fn units_capped(whole: &[u8], fraction: &[u8], decimals: u8) -> u64
 }
 
 /// The number that digits write after those of `front`, or one above the greatest where it is above.
-fn number_after_capped(front: u64, digits: &[u8]) -> u64
+pub(crate) fn number_after_capped(front: u64, digits: &[u8]) -> u64
     ensures { result ≡ min (number_after front digits.now) (GREATEST_NUMBER + 1) }
 {
     let mut number = front.min(GREATEST_NUMBER + 1);

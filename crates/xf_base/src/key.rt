@@ -1,7 +1,10 @@
 //! Keys: what a dimension orders and filters records by.
 ghost use Rattle.std.specs.Prelude.{◌≡◌, true, IfOk};
 ghost use Rattle.xf_base.specs.Key.{IsPlainAtom, IsPlain};
+ghost use Rattle.xf_base.specs.Kind.{kind_of_atom, kind_of_key};
 
+use crate::kind::{AtomKind, KeyKind};
+use crate::list_of::ListOf;
 use crate::out_of_memory::OutOfMemory;
 use crate::text::Text;
 use std::alloc::Global;
@@ -22,7 +25,19 @@ pub enum Key {
     Pair(Atom, Atom),
 }
 
+/// Keys in order.
+pub type KeyList = ListOf<Key>;
+
 impl Atom {
+    fn kind(&self) -> AtomKind
+        ensures { result ≡ kind_of_atom self.now }
+    {
+        match self {
+            Atom::Num(_) => AtomKind::Num,
+            Atom::Text(_) => AtomKind::Text,
+        }
+    }
+
     /// The same part once more, with memory of its own.
     pub fn copy(&self, alloc: Global) -> Result<Atom, OutOfMemory>
         ensures { IfOk result (λ copy. copy ≡ self.now) }
@@ -46,6 +61,17 @@ impl Atom {
 }
 
 impl Key {
+    /// Whether it is a number, a text, or a pair of what.
+    pub fn kind(&self) -> KeyKind
+        ensures { result ≡ kind_of_key self.now }
+    {
+        match self {
+            Key::Num(_) => KeyKind::Num,
+            Key::Text(_) => KeyKind::Text,
+            Key::Pair(first, second) => KeyKind::Pair(first.kind(), second.kind()),
+        }
+    }
+
     /// The same key once more, with memory of its own.
     pub fn copy(&self, alloc: Global) -> Result<Key, OutOfMemory>
         ensures { IfOk result (λ copy. copy ≡ self.now) }

@@ -1,14 +1,18 @@
-//! Keys, cells, rows, schemas, limits, counted steps, and the texts of numbers and words.
+//! Keys, cells, rows, schemas, limits, counted steps, and the texts of numbers, dates and words.
 //!
 //! The lowest layer: plain values that every crate above passes on, each seen by contracts as the list, number or
-//! record that it holds. It stands on std alone. Its one promise: keys have one order, and a number or a word is
-//! read and written exactly as `specs/` says.
+//! record that it holds. It stands on std, and on jiff for the calendar. Its one promise: keys have one order, and a
+//! number, a date or a word is read and written exactly as `specs/` says.
 #![tactic(auto)]
 
+mod blank;
 mod cell;
 mod column;
+mod date;
 mod fixed;
+mod form;
 mod key;
+mod kind;
 mod limits;
 mod list_of;
 mod number;
@@ -23,8 +27,11 @@ mod word;
 
 pub use cell::{Cell, TextList};
 pub use column::{Column, ColumnKind};
+pub use date::{DateRefusal, FIRST_DAY, LAST_DAY, read_date};
 pub use fixed::{GREATEST_NUMBER, NumberRefusal, put_fixed, read_fixed};
-pub use key::{Atom, Key};
+pub use form::{AtomForm, KeyForm};
+pub use key::{Atom, Key, KeyList};
+pub use kind::{AtomKind, KeyKind};
 pub use limits::Limits;
 pub use list_of::ListOf;
 pub use number::put_number;

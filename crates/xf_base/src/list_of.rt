@@ -1,5 +1,5 @@
 //! A list that contracts see as the list of its items.
-ghost use Rattle.std.specs.Prelude.{◌≡◌, ◌==◌, [], ◌∷◌, ◌++◌, length, OnOk, OnErr, option_copied, slice_get};
+ghost use Rattle.std.specs.Prelude.{◌≡◌, ◌==◌, ◌≤◌, ◌↔◌, [], ◌∷◌, ◌++◌, length, IsNone, OnOk, OnErr, option_copied, slice_get};
 
 use crate::out_of_memory::OutOfMemory;
 use std::alloc::Global;
@@ -50,7 +50,8 @@ impl<T> ListOf<T> {
 
     /// The item at a place from 0 on, or None past the last.
     pub fn at(&self, i: usize) -> Option<&T>
-        ensures { option_copied result ≡ slice_get self.now i }
+        ensures item { option_copied result ≡ slice_get self.now i }
+        ensures none { IsNone result ↔ (length self.now ≤ i) }
     {
         self.items.get(i)
     }

@@ -1,7 +1,7 @@
 use Rattle.std.proofs.Common.{◌≡◌, ◌+◌, ◌≤◌, length, take}
 use Rattle.std.specs.List.{suffix_len}
 use Rattle.xf_base.specs.Fixed.{is_blank}
-use Rattle.xf_base.proofs.fixed.trim_end.Given as goal
+use Rattle.xf_base.proofs.blank.without_end_blanks.Given as goal
 
 abbrev pub invariant-loop-end : goal.invariant-loop-end
 invariant-loop-end l = record {

@@ -1,7 +1,7 @@
 use Rattle.std.proofs.Common.{◌≡◌, ◌+◌, ◌-◌, ◌≤◌, length, drop}
 use Rattle.std.specs.List.{prefix_len}
 use Rattle.xf_base.specs.Fixed.{is_blank}
-use Rattle.xf_base.proofs.fixed.trim_start.Given as goal
+use Rattle.xf_base.proofs.blank.without_start_blanks.Given as goal
 
 abbrev pub invariant-loop-start : goal.invariant-loop-start
 invariant-loop-start l = record {

@@ -1,0 +1,80 @@
+//! Civil dates, kept as days from 1970-01-01 on.
+ghost use Rattle.std.specs.Prelude.{◌≡◌, ◌<◌, ◌≤◌, ◌^◌, true, length, IfOk};
+ghost use Rattle.std.specs.List.{list_all};
+ghost use Rattle.std.specs.Char.{is_ascii_digit};
+ghost use Rattle.xf_base.specs.Date.{is_date_form, day_of, date_of};
+ghost use Rattle.xf_base.specs.Fixed.{number_after};
+ghost use Rattle.xf_base.specs.Schema.{IsDay};
+
+use crate::blank::without_blanks;
+use crate::fixed::{all_digits, number_after_capped};
+use jiff::civil::Date;
+use thiserror::Error;
+
+/// Why a text is no date. The first that holds, in this order.
+#[derive(Clone, Copy, Debug, PartialEq, Eq, Error)]
+pub enum DateRefusal {
+    /// Not four digits, `-`, two digits, `-`, two digits.
+    #[error("not a date")]
+    Form,
+    /// The Gregorian calendar has no such day.
+    #[error("no such day")]
+    NoSuchDay,
+}
+
+/// 0000-01-01.
+pub const FIRST_DAY: i64 = -719_528;
+
+/// 9999-12-31.
+pub const LAST_DAY: i64 = 2_932_896;
+
+/// The day that a text writes as `YYYY-MM-DD`, counted from 1970-01-01 on; days before it are negative. Blanks at the
+/// text's ends do not count.
+pub fn read_date(text: &[u8]) -> Result<i64, DateRefusal>
+    ensures value { result ≡ date_of text.now }
+    ensures within { IfOk result IsDay }
+{
+    let text = without_blanks(text);
+    if !is_date_form(text) {
+        return Err(DateRefusal::Form);
+    }
+    let year = number_of_digits(&text[..4]);
+    let month = number_of_digits(&text[5..7]);
+    let day = number_of_digits(&text[8..10]);
+    day_of(year, month as u8, day as u8)
+}
+
+/// Whether a text is four digits, `-`, two digits, `-`, two digits.
+fn is_date_form(text: &[u8]) -> bool
+    ensures { result ≡ is_date_form text.now }
+{
+    text.len() == 10
+        && text[4] == b'-'
+        && text[7] == b'-'
+        && all_digits(&text[..4])
+        && all_digits(&text[5..7])
+        && all_digits(&text[8..10])
+}
+
+/// The number that a few digits write.
+fn number_of_digits(digits: &[u8]) -> u16
+    requires few { length digits.now ≤ 4 }
+    requires digits { list_all is_ascii_digit digits.now ≡ true }
+    ensures value { result ≡ number_after 0 digits.now }
+    ensures bound { result < 10 ^ length digits.now }
+{
+    number_after_capped(0, digits) as u16
+}
+
+fn day_of(year: u16, month: u8, day: u8) -> Result<i64, DateRefusal>
+    requires year { year < 10000 }
+    requires month { month < 100 }
+    requires day { day < 100 }
+    ensures value { result ≡ day_of year month day }
+    ensures within { IfOk result IsDay }
+{
+    match Date::new(year as i16, month as i8, day as i8) {
+        Ok(date) => Ok(i64::from(date.to_plain().to_unix_epoch_day())),
+        Err(_) => Err(DateRefusal::NoSuchDay),
+    }
+}

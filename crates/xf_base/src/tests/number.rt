@@ -1,0 +1,84 @@
+//! Texts of numbers, by values from outside.
+use crate::{NumberRefusal, put_fixed, put_number, read_fixed};
+use std::test::Fail;
+
+#[test]
+fn reads_numbers(rt: HostRuntime) {
+    let cases = [
+        (" 7.0", 0, Ok(7)),
+        ("+7", 0, Ok(7)),
+        ("7.", 0, Ok(7)),
+        (".0", 0, Ok(0)),
+        ("", 0, Err(NumberRefusal::Empty)),
+        ("  ", 0, Err(NumberRefusal::Empty)),
+        (".", 0, Err(NumberRefusal::NotNumber)),
+        ("-", 0, Err(NumberRefusal::NotNumber)),
+        ("1.5", 0, Err(NumberRefusal::TooManyDecimals)),
+        ("1.50", 1, Ok(15)),
+        ("-.5", 1, Ok(-5)),
+        ("1.25", 1, Err(NumberRefusal::TooManyDecimals)),
+        ("0012.3  ", 3, Ok(12_300)),
+        ("1000000000000000", 0, Ok(1_000_000_000_000_000)),
+        ("1000000000000001", 0, Err(NumberRefusal::OutOfRange)),
+        ("-1000000000000000", 0, Ok(-1_000_000_000_000_000)),
+        ("1", 15, Ok(1_000_000_000_000_000)),
+        ("1", 255, Err(NumberRefusal::OutOfRange)),
+        ("0", 255, Ok(0)),
+        ("1 2", 0, Err(NumberRefusal::NotNumber)),
+        ("- 1", 0, Err(NumberRefusal::NotNumber)),
+        ("--1", 0, Err(NumberRefusal::NotNumber)),
+        ("1.0.0", 0, Err(NumberRefusal::NotNumber)),
+        ("0.000", 0, Ok(0)),
+        ("\t1", 0, Err(NumberRefusal::NotNumber)),
+        ("1e3", 0, Err(NumberRefusal::NotNumber)),
+    ];
+    for (text, decimals, want) in cases {
+        assert_eq!(rt; read_fixed(text.as_bytes(), decimals), want, "at {text:?}");
+    }
+}
+
+#[test]
+fn writes_numbers(rt: HostRuntime) -> Result<(), Fail> {
+    let cases = [
+        (5, 2, "0.05"),
+        (-5, 2, "-0.05"),
+        (7, 0, "7"),
+        (0, 0, "0"),
+        (-7, 0, "-7"),
+        (1_234, 2, "12.34"),
+        (-120, 1, "-12.0"),
+        (100, 3, "0.100"),
+        (i128::MIN, 0, "-170141183460469231731687303715884105728"),
+        (i128::MAX, 38, "1.70141183460469231731687303715884105727"),
+    ];
+    for (number, decimals, want) in cases {
+        let mut out = Vec::new(rt.alloc());
+        put_fixed(&mut out, number, decimals)?;
+        assert_eq!(rt; out.as_slice(), want.as_bytes(), "at {number}");
+    }
+    Ok(())
+}
+
+#[test]
+fn writes_counts(rt: HostRuntime) -> Result<(), Fail> {
+    let mut out = Vec::new(rt.alloc());
+    put_number(&mut out, u64::MAX)?;
+    put_number(&mut out, 0)?;
+    assert_eq!(rt; out.as_slice(), b"184467440737095516150".as_slice());
+    Ok(())
+}
+
+#[test]
+fn refusals_have_texts(rt: HostRuntime) -> Result<(), Fail> {
+    let cases = [
+        (NumberRefusal::Empty, "empty"),
+        (NumberRefusal::NotNumber, "not a number"),
+        (NumberRefusal::TooManyDecimals, "too many decimals"),
+        (NumberRefusal::OutOfRange, "out of range"),
+    ];
+    for (refusal, want) in cases {
+        let text = format!(in rt.alloc(); "{refusal}")?;
+        assert_eq!(rt; text.as_str(), want);
+    }
+    Ok(())
+}
