@@ -28,6 +28,7 @@ impl Model for Schema {
 }
 
 impl Schema {
+    ghost use Rattle.std.specs.List.{AllByRecursion};
     ghost use Rattle.xf_base.specs.Schema.{IsColumn};
 
     /// A schema without columns.
@@ -58,7 +59,8 @@ impl Schema {
 
     /// The columns in order.
     pub fn as_slice(&self) -> &[Column]
-        ensures { result.now ≡ self.now }
+        ensures value { result.now ≡ self.now }
+        ensures sound { AllByRecursion IsColumn self.now }
     {
         self.columns.as_slice()
     }

@@ -1,0 +1,6 @@
+-- The copies are those of the texts so far.
+use Rattle.std.proofs.Common.{◌≡◌, map, take}
+use Rattle.xf_load.proofs.tags.copies_of.Given as goal
+
+abbrev pub invariant-loop-text : goal.invariant-loop-text
+invariant-loop-text l = l.copies.items ≡ map (λ text. text.now) (take l.text-index l.texts)
