@@ -1,307 +1,202 @@
--- Facts about the columns and the rows that a board is made of.
-use Rattle.std.proofs.Common.{◌≡◌, inl, inr, ℕ, zero, suc, ◌+◌, ◌*◌, ◌<◌, ◌≤◌, Bool, true, false, not, ◌&&◌, ◌||◌, ◌==◌, nat_le, nat_lt, ℤ, pos, List, [], ◌∷◌, ◌++◌, length, map, get_or, take, drop, position, is_some, Option, Some, None, Result, Ok, Err, is_ok, cond, if◌then◌else◌, Decides, refl, sym, ap, ◌∙◌, arith, zero-mul}
-use Rattle.std.specs.List.{list_all, list_any, position_or_len}
-use Rattle.std.specs.Result.{result_unwrap_or}
+-- Facts about the columns that a board is made of.
+use Rattle.std.proofs.Common.{◌≡◌, ℕ, zero, suc, ◌+◌, ◌*◌, ◌^◌, ◌<◌, ◌≤◌, ◌==◌, nat_lt, nat_eq, Bool, true, false, cond, not, ◌&&◌, ◌||◌, List, [], ◌∷◌, ◌++◌, length, map, filter, take, get_or, min, slice_get, unwrap_or, position, Option, Some, None, Result, Ok, Err, is_ok, MatchResult, Bor, refl, sym, ap, ◌∙◌, arith, mul-le-mul, zero-add}
+use Rattle.std.specs.Cmp.Lexicographic.{nat_list_eq_equiv, pointwise}
+use Rattle.std.specs.HashSet.{HashSet, Updates, contains}
+use Rattle.std.specs.List.{All, enumerate_from, list_all, list_any, position_or_len}
 use Rattle.std.specs.Str.{IsUtf8, bytes_eq, is_utf8}
+use Rattle.std.proofs.lemmas.Bool.{and_parts, eq-eqb, false_from_ne_true, le-ltb, lt-ltb}
+use Rattle.std.proofs.lemmas.List.{length-map, length-take, map-append, take-map, take_all, take_min}
+use Rattle.std.proofs.lemmas.List.Elements.{All-filter, All-map, All-take, All-weaker, filter_more, filter_passes}
+use Rattle.std.proofs.lemmas.List.Folds.{list_any_more}
+use Rattle.std.proofs.lemmas.List.FromFn.{get_or-enumerate_from, length-enumerate_from}
+use Rattle.std.proofs.lemmas.Option.{slice_get-get_or}
 use Rattle.std.proofs.lemmas.Str.{IsUtf8-from_is_utf8, is_utf8-from_IsUtf8}
-use Rattle.std.proofs.lemmas.Bool.{false_from_ne_true, and_from, and_right, leb-true, le-leb, lt-ltb, le-ltb, cases_lt, eq-eqb, eqb-true, ne_eqb}
-use Rattle.std.proofs.lemmas.Bool.Decides.{same_from_decides}
-use Rattle.std.proofs.lemmas.List.{append-nil, append_assoc, drop_more, length-map, length_push, map-append, map_more, take_all, take_more, drop_all}
-use Rattle.std.proofs.lemmas.List.Folds.{list_all-append, list_all_at, list_all_more}
-use Rattle.std.proofs.lemmas.Slice.Eq.{bytes_eq-Decides}
-use Rattle.csv.specs.Machine.{Read, next_record}
-use Rattle.csv.specs.Reading.{default_config, is_bom, records_from, records_next, strip_bom}
-use Rattle.csv.specs.Records.{field_at}
-use Rattle.csv.specs.declared.parser.Config.{Config}
-use Rattle.csv.specs.declared.parser.State.{State}
-use Rattle.csv.specs.declared.parser.State.TheVariants as st
-use Rattle.xf_app.specs.Records.{records_of}
-use Rattle.xf_app.specs.Board.{are_new, first_uneven, int_column, is_number, number_cell, rows_taken, takes_header}
-use Rattle.xf_app.specs.BoardSteps.{even_rows, rows_after, rows_or_uneven}
+use Rattle.xf_app.specs.Board.{board_columns, columns_of, field_of, int_column, is_chosen, is_named, is_number, is_number_column, uneven_place}
 use Rattle.xf_app.specs.declared.board.BoardFault.{BoardFault}
-use Rattle.xf_app.specs.declared.board.BoardFault.TheVariants.{UnevenRecord}
-use Rattle.xf_base.specs.Fixed.{number_of}
-use Rattle.xf_base.specs.declared.cell.Cell.{Cell}
-use Rattle.xf_base.specs.declared.cell.Cell.TheVariants as cell
+use Rattle.xf_app.specs.declared.board.BoardFault.TheVariants.{NoHeader, UnevenRecord, TooManyRecords, TooManyEntries}
 use Rattle.xf_base.specs.declared.column.Column.{Column}
-use Rattle.xf_base.specs.declared.fixed.NumberRefusal.{NumberRefusal}
+use Rattle.xf_base.specs.declared.limits.TheConstants.Limits.{DIMENSIONS, ENTRIES, ROWS}
 
--- the field that a look-up gave
-pub field_at-some : (fields : List (List ℕ)) (i : ℕ) (field : List ℕ) → field_at fields i ≡ Some field → (i < length fields) × (get_or fields i [] ≡ field)
-unfolding field_at
-field_at-some [] i field e = cc e
-field_at-some (x ∷ fields) zero field e = (omega arith, cc)
-field_at-some (x ∷ fields) (suc i) field e =
-    let more = field_at-some fields i field e in
-    (omega arith, more.1)
+-- ---- the records
 
--- where a look-up gave none there is no field
-pub field_at-none : (fields : List (List ℕ)) (i : ℕ) → field_at fields i ≡ None → length fields ≤ i
-unfolding field_at
-field_at-none [] i e = omega arith
-field_at-none (x ∷ fields) zero e = cc e
-field_at-none (x ∷ fields) (suc i) e = omega (arith, field_at-none fields i e)
+-- a record has another number of fields than the header
+abbrev pub is_uneven : ℕ → List (List ℕ) → Bool
+is_uneven width fields = not (length fields == width)
 
--- what a field that was read as a number says
-pub read-ok : (read : Result ℤ NumberRefusal) (number : ℤ) → read ≡ Ok number → (is_ok read ≡ true) × (cell.Num (result_unwrap_or read (pos 0)) ≡ cell.Num number)
-read-ok (Ok m) number e = (refl, cc)
-read-ok (Err refusal) number e = cc e
+-- a record more that is even
+pub even-next : (width number : ℕ) (fields : List (List ℕ)) (before after : List (List (List ℕ))) → before ≡ fields ∷ after → length fields ≡ width
+    → number + 1 + position_or_len (is_uneven width) after ≡ number + position_or_len (is_uneven width) before
+even-next width number fields before after next even =
+    let here : position_or_len (is_uneven width) before ≡ 1 + position_or_len (is_uneven width) after = rw (next, eq-eqb (length fields) width even) refl in
+    omega (arith, here)
 
--- a field that was not read is no number
-pub read-err : (read : Result ℤ NumberRefusal) (refusal : NumberRefusal) → read ≡ Err refusal → is_ok read ≡ false
-read-err (Ok m) refusal e = cc e
-read-err (Err r) refusal e = refl
+-- of what one test keeps another keeps what passes both
+filter_twice : {X : Type 0} (p q : X → Bool) (xs : List X) → filter p (filter q xs) ≡ filter (λ x. q x && p x) xs
+filter_twice p q [] = refl
+filter_twice p q (x ∷ xs) = go (q x) ∙ ap (λ ys. cond (q x && p x) (x ∷ ys) ys) (filter_twice p q xs)
+  where
+    go : (b : Bool) → filter p (cond b (x ∷ filter q xs) (filter q xs)) ≡ cond (b && p x) (x ∷ filter p (filter q xs)) (filter p (filter q xs))
+    go true = refl
+    go false = refl
 
--- a turn gives one record at most
-next-length : (n : ℕ) (more : State → List ℕ → List (List (List ℕ))) (o : Option Read) → ((s : State) (xs : List ℕ) → length (more s xs) ≤ n) → length (records_next more o) ≤ n + 1
-next-length n more None h = omega arith
-next-length n more (Some p) h = omega (arith, h p.1 p.2)
+-- a record more, of which the places of numbers are kept
+pub kept-next : (fields : List (List ℕ)) (before after : List (List (List ℕ))) (places kept : List ℕ) → before ≡ fields ∷ after → kept ≡ filter (λ place. is_number (field_of fields place)) places
+    → filter (is_number_column after) kept ≡ filter (is_number_column before) places
+kept-next fields before after places kept next is =
+    ap (filter (is_number_column after)) is ∙ filter_twice (is_number_column after) (λ place. is_number (field_of fields place)) places ∙ ap (λ records. filter (is_number_column records) places) (sym next)
 
--- there are no more records than turns
-pub records_from-length : (cfg : Config) (n : ℕ) (s : State) (xs : List ℕ) → length (records_from cfg n s xs) ≤ n
-unfolding records_from
-records_from-length cfg zero s xs = omega arith
-records_from-length cfg (suc n) s xs = omega (arith, next-length n (records_from cfg n) (next_record cfg s [] [] xs) (records_from-length cfg n))
+-- at the end all that are left are kept
+pub kept-end : (before : List (List (List ℕ))) (places : List ℕ) → before ≡ [] → filter (is_number_column before) places ≡ places
+kept-end before places none = ap (λ records. filter (is_number_column records) places) none ∙ go places
+  where
+    go : (xs : List ℕ) → filter (is_number_column []) xs ≡ xs
+    go [] = refl
+    go (x ∷ xs) = ap (λ ys. x ∷ ys) (go xs)
 
--- either of two lists, neither of which is longer
-either-length : (b : Bool) (xs ys : List ℕ) → length xs ≤ length ys → length (if b then xs else ys) ≤ length ys
-either-length true xs ys h = h
-either-length false xs ys h = omega arith
+-- ---- the names of a header
 
--- a byte order mark that is dropped leaves no more bytes
-strip-length : (bytes : List ℕ) → length (strip_bom bytes) ≤ length bytes
-unfolding strip_bom
-strip-length [] = omega arith
-strip-length (a ∷ []) = omega arith
-strip-length (a ∷ b ∷ []) = omega arith
-strip-length (a ∷ b ∷ c ∷ rest) = either-length (is_bom a b c) rest (a ∷ b ∷ c ∷ rest) (omega arith)
+-- a name with its place in the header
+abbrev pub IsPlaced : List (List ℕ) → ℕ × List ℕ → Type 0
+IsPlaced header column = slice_get header column.0 ≡ Some column.1
 
--- below the header there are no more records than bytes
-pub records-below : (bytes : List ℕ) (before after : List (List (List ℕ))) (header : List (List ℕ)) → before ≡ records_of bytes → before ≡ header ∷ after → length after ≤ length bytes
-records-below bytes before after header all next =
-    let strip = strip-length bytes in
-    let turns = records_from-length default_config (length (strip_bom bytes) + 1) st.StartRecord (strip_bom bytes) in
-    omega (arith, ap length all, ap length next)
+-- each column of a header is numbered by its place
+pub placed : (header : List (List ℕ)) → All (IsPlaced header) (enumerate_from 0 header)
+placed header = λ k d within.
+    let inside : k < length header = omega (arith, length-enumerate_from 0 header) in
+    let at = get_or-enumerate_from 0 header k d inside in
+    rw (at, zero-add k) (slice_get-get_or header k d.1 inside)
 
--- equality of texts does not ask for their order
-bytes_eq-turned : (xs ys : List ℕ) → bytes_eq xs ys ≡ bytes_eq ys xs
-bytes_eq-turned xs ys =
-    let a = bytes_eq-Decides xs ys in
-    let b = bytes_eq-Decides ys xs in
-    let turned : Decides (bytes_eq ys xs) (xs ≡ ys) = (λ e. sym (b.0 e), λ e. b.1 (sym e)) in
-    same_from_decides (bytes_eq xs ys) (bytes_eq ys xs) a turned
+-- one name more
+pub named-more : (header : List (List ℕ)) (i : ℕ) (name : List ℕ) → i < length header → name ≡ field_of header i
+    → map (λ column. column.0) (filter (is_named header) (take (i + 1) (enumerate_from 0 header)))
+    ≡ map (λ column. column.0) (filter (is_named header) (take i (enumerate_from 0 header))) ++ cond (is_named header (i, name)) (i ∷ []) []
+named-more header i name within is =
+    let there : field_of header i ≡ get_or header i name = ap (λ o. unwrap_or o []) (slice_get-get_or header i name within) in
+    let at : get_or (enumerate_from 0 header) i (i, name) ≡ (i, name) = get_or-enumerate_from 0 header i (i, name) within ∙ rw (zero-add i, ← there, ← is) refl in
+    let more = filter_more (is_named header) (enumerate_from 0 header) i (i, name) (omega (arith, length-enumerate_from 0 header)) in
+    ap (map (λ column. column.0)) (more ∙ ap (λ c. filter (is_named header) (take i (enumerate_from 0 header)) ++ cond (is_named header c) (c ∷ []) []) at)
+    ∙ map-append (λ column. column.0) (filter (is_named header) (take i (enumerate_from 0 header))) (cond (is_named header (i, name)) ((i, name) ∷ []) [])
+    ∙ ap (λ ys. map (λ column. column.0) (filter (is_named header) (take i (enumerate_from 0 header))) ++ ys) (go (is_named header (i, name)))
+  where
+    go : (b : Bool) → map (λ (c : ℕ × List ℕ). c.0) (cond b ((i, name) ∷ []) []) ≡ cond b (i ∷ []) []
+    go true = refl
+    go false = refl
 
--- a test of numbers that are each one more
-below-one : (n m : ℕ) → nat_lt (1 + n) (suc m) ≡ nat_lt n m
-below-one n m = elim (cases_lt n m) [ inl h ↦ lt-ltb (1 + n) (suc m) (omega arith) ∙ sym (lt-ltb n m h) | inr h ↦ le-ltb (1 + n) (suc m) (omega arith) ∙ sym (le-ltb n m h) ]
+-- whether a text was read tells whether it is one
+pub text-test : {E : Type 0} (Q : E → Type 0) (read : Result (Bor (List ℕ)) E) (name : List ℕ) (answer : Bool)
+    → MatchResult read (λ s. (s.now ≡ name) × IsUtf8 name) (λ e. (IsUtf8 name → ⊥) × Q e) → answer ≡ is_ok read → is_utf8 name ≡ answer
+text-test Q (Ok s) name answer told is = is_utf8-from_IsUtf8 name told.1 ∙ sym is
+text-test Q (Err e) name answer told is = false_from_ne_true (is_utf8 name) (λ t. told.0 (IsUtf8-from_is_utf8 name t)) ∙ sym is
 
--- the test of a first place, at one element more
-below-any-step : {X : Type 0} (b : Bool) (p : X → Bool) (xs : List X) → nat_lt (position_or_len p xs) (length xs) ≡ list_any p xs
-    → nat_lt (cond (not b) (1 + position_or_len p xs) 0) (suc (length xs)) ≡ (b || list_any p xs)
-below-any-step true p xs h = lt-ltb 0 (suc (length xs)) (omega arith)
-below-any-step false p xs h = below-one (position_or_len p xs) (length xs) ∙ h
+-- the set of names has one more
+pub names-more : (header : List (List ℕ)) (i : ℕ) (key name : Bor (List ℕ)) (before after : Bool) → i < length header → key.now ≡ field_of header i
+    → before ≡ list_any (bytes_eq name.now) (take i header) → after ≡ cond (pointwise nat_eq key.now name.now) true before
+    → after ≡ list_any (bytes_eq name.now) (take (i + 1) header)
+names-more header i key name before after within is old new =
+    let there : field_of header i ≡ get_or header i [] = ap (λ o. unwrap_or o []) (slice_get-get_or header i [] within) in
+    new ∙ ap (λ b. cond (pointwise nat_eq key.now name.now) true b) old ∙ go (pointwise nat_eq key.now name.now) (list_any (bytes_eq name.now) (take i header))
+    ∙ ap (λ b. list_any (bytes_eq name.now) (take i header) || b) (nat_list_eq_equiv.symm key.now name.now ∙ ap (bytes_eq name.now) (is ∙ there))
+    ∙ sym (list_any_more (bytes_eq name.now) header i [] within)
+  where
+    go : (e b : Bool) → cond e true b ≡ (b || e)
+    go true true = refl
+    go true false = refl
+    go false true = refl
+    go false false = refl
 
--- a first place is below the length exactly where an element passes
-below-any : {X : Type 0} (p : X → Bool) (xs : List X) → nat_lt (position_or_len p xs) (length xs) ≡ list_any p xs
-below-any p [] = refl
-below-any p (x ∷ xs) = below-any-step (p x) p xs (below-any p xs)
+-- ---- the columns
 
--- a value behind a test is there where the test passes
-found-is : (b : Bool) (n : ℕ) → is_some (cond b (Some n) None) ≡ b
-found-is true n = refl
-found-is false n = refl
+-- what is kept of the places is what is kept of the columns
+places-filter : (p : ℕ × List ℕ → Bool) (q : ℕ → Bool) (xs : List (ℕ × List ℕ)) → filter q (map (λ column. column.0) (filter p xs)) ≡ map (λ column. column.0) (filter (λ c. p c && q c.0) xs)
+places-filter p q [] = refl
+places-filter p q (x ∷ xs) = go (p x) ∙ ap (λ ys. cond (p x && q x.0) (x.0 ∷ ys) ys) (places-filter p q xs) ∙ sym (out (p x && q x.0))
+  where
+    go : (a : Bool) → filter q (map (λ (c : ℕ × List ℕ). c.0) (cond a (x ∷ filter p xs) (filter p xs))) ≡ cond (a && q x.0) (x.0 ∷ filter q (map (λ (c : ℕ × List ℕ). c.0) (filter p xs))) (filter q (map (λ (c : ℕ × List ℕ). c.0) (filter p xs)))
+    go true = refl
+    go false = refl
 
--- a first place is there exactly where an element passes
-position-any : {X : Type 0} (p : X → Bool) (xs : List X) → is_some (position p xs) ≡ list_any p xs
-position-any p xs = found-is (nat_lt (position_or_len p xs) (length xs)) (position_or_len p xs) ∙ below-any p xs
+    out : (a : Bool) → map (λ (c : ℕ × List ℕ). c.0) (cond a (x ∷ filter (λ c. p c && q c.0) xs) (filter (λ c. p c && q c.0) xs)) ≡ cond a (x.0 ∷ map (λ (c : ℕ × List ℕ). c.0) (filter (λ c. p c && q c.0) xs)) (map (λ (c : ℕ × List ℕ). c.0) (filter (λ c. p c && q c.0) xs))
+    out true = refl
+    out false = refl
 
--- a name stands among columns where it stands among the names that they have
-any-columns : (name : List ℕ) (names : List (List ℕ)) → list_any (λ column. bytes_eq column.name name) (map int_column names) ≡ list_any (bytes_eq name) names
-any-columns name [] = refl
-any-columns name (x ∷ names) = rw (bytes_eq-turned x name, any-columns name names) refl
+-- the names of the places are those of the columns
+named : (header : List (List ℕ)) (xs : List (ℕ × List ℕ)) → All (IsPlaced header) xs → map (λ place. int_column (field_of header place)) (map (λ column. column.0) xs) ≡ map (λ (place, name). int_column name) xs
+named header [] at = refl
+named header (x ∷ xs) at =
+    let here : slice_get header x.0 ≡ Some x.1 = at 0 x (omega arith) in
+    let first : int_column (field_of header x.0) ≡ int_column x.1 = ap (λ o. int_column (unwrap_or o [])) here in
+    let rest = named header xs (λ k d within. at (suc k) d (omega arith)) in
+    rw (first, rest) refl
 
--- so a name has a place among the columns of the names that it stands among
-pub place-any : (name : List ℕ) (names : List (List ℕ)) → is_some (position (λ column. bytes_eq column.name name) (map int_column names)) ≡ list_any (bytes_eq name) names
-place-any name names = position-any (λ column. bytes_eq column.name name) (map int_column names) ∙ any-columns name names
+-- so the columns of the places that are kept are those of the board
+pub columns-are : (header : List (List ℕ)) (records : List (List (List ℕ))) (places : List ℕ)
+    → places ≡ filter (is_number_column records) (map (λ column. column.0) (filter (is_named header) (enumerate_from 0 header)))
+    → map (λ place. int_column (field_of header place)) (take DIMENSIONS places) ≡ columns_of header records
+columns-are header records places is =
+    let chosen = filter (is_chosen header records) (enumerate_from 0 header) in
+    let all : places ≡ map (λ column. column.0) chosen = is ∙ places-filter (is_named header) (is_number_column records) (enumerate_from 0 header) in
+    ap (λ xs. map (λ place. int_column (field_of header place)) (take DIMENSIONS xs)) all
+    ∙ ap (map (λ place. int_column (field_of header place))) (take-map (λ column. column.0) DIMENSIONS chosen)
+    ∙ named header (take DIMENSIONS chosen) (All-take (IsPlaced header) DIMENSIONS chosen (All-filter (is_chosen header records) (IsPlaced header) (enumerate_from 0 header) (placed header)))
 
--- one name more of a header
-pub are_new-next : (header : List (List ℕ)) (i : ℕ) → i < length header
-    → are_new (take i header) (drop i header)
-    ≡ (is_utf8 (get_or header i []) && not (list_any (bytes_eq (get_or header i [])) (take i header)) && are_new (take (i + 1) header) (drop (i + 1) header))
-are_new-next header i h = rw (drop_more header i [] h, take_more header i [] h) refl
+-- the name at each place is a text
+pub places-text : (header : List (List ℕ)) (records : List (List (List ℕ))) (places : List ℕ)
+    → places ≡ filter (is_number_column records) (map (λ column. column.0) (filter (is_named header) (enumerate_from 0 header)))
+    → All (λ place. IsUtf8 (field_of header place)) places
+places-text header records places is =
+    let IsNamed : ℕ → Type 0 = λ place. IsUtf8 (field_of header place) in
+    rw is (All-filter (is_number_column records) IsNamed (map (λ column. column.0) (filter (is_named header) (enumerate_from 0 header))) (All-map IsNamed (λ (column : ℕ × List ℕ). column.0) (filter (is_named header) (enumerate_from 0 header)) texts))
+  where
+    texts : All (λ c. IsUtf8 (field_of header c.0)) (filter (is_named header) (enumerate_from 0 header))
+    texts = λ k d within.
+        let at = All-filter (is_named header) (IsPlaced header) (enumerate_from 0 header) (placed header) k d within in
+        let passes = filter_passes (is_named header) (enumerate_from 0 header) k d within in
+        rw at (IsUtf8-from_is_utf8 _ (and_parts _ _ passes).0)
 
--- where a header stands after some of its names
-abbrev pub IsReadTo : List (List ℕ) → ℕ → Type 0
-IsReadTo header i = are_new [] header ≡ are_new (take i header) (drop i header)
+-- at most as many columns as a board has
+pub columns-few : (header : List (List ℕ)) (records : List (List (List ℕ))) → length (columns_of header records) ≤ DIMENSIONS
+columns-few header records =
+    let chosen = filter (is_chosen header records) (enumerate_from 0 header) in
+    omega (arith, length-map (take DIMENSIONS chosen) (λ (column : ℕ × List ℕ). int_column column.1), length-take DIMENSIONS chosen)
 
--- one name more of a header that was read to it
-are_new-at : (header : List (List ℕ)) (i : ℕ) (name : List ℕ) → field_at header i ≡ Some name → IsReadTo header i
-    → are_new [] header ≡ (is_utf8 name && not (list_any (bytes_eq name) (take i header)) && are_new (take (i + 1) header) (drop (i + 1) header))
-are_new-at header i name there read =
-    let at = field_at-some header i name there in
-    read ∙ are_new-next header i at.0
-    ∙ ap (λ (n : List ℕ). is_utf8 n && not (list_any (bytes_eq n) (take i header)) && are_new (take (i + 1) header) (drop (i + 1) header)) at.1
+-- ---- the causes
 
--- a header is refused for a name that is not UTF-8
-pub name-not_text : (header : List (List ℕ)) (i : ℕ) (name : List ℕ) → field_at header i ≡ Some name → IsReadTo header i → (IsUtf8 name → ⊥) → takes_header header ≡ false
-name-not_text header i name there read bad =
-    let text : is_utf8 name ≡ false = false_from_ne_true (is_utf8 name) (λ e. bad (IsUtf8-from_is_utf8 name e)) in
-    and_right (nat_le (length header) 32) (are_new [] header) (are_new-at header i name there read ∙ ap (λ b. b && not (list_any (bytes_eq name) (take i header)) && are_new (take (i + 1) header) (drop (i + 1) header)) text)
+pub board_columns-none : (records : List (List (List ℕ))) → records ≡ [] → board_columns records ≡ Err NoHeader
+board_columns-none records none = rw none refl
 
--- whether a name stands among the columns made so far
-name-stands : (header : List (List ℕ)) (i : ℕ) (name text : List ℕ) (columns : List Column) → text ≡ name → columns ≡ map int_column (take i header)
-    → is_some (position (λ column. bytes_eq column.name text) columns) ≡ list_any (bytes_eq name) (take i header)
-name-stands header i name text columns same made = rw (same, made) (place-any name (take i header))
+pub board_columns-even : (all : List (List (List ℕ))) (header : List (List ℕ)) (records : List (List (List ℕ))) (columns : List Column) → all ≡ header ∷ records → uneven_place (length header) records ≡ None
+    → columns ≡ columns_of header records → length records ≤ ROWS → length records * length columns ≤ ENTRIES → board_columns all ≡ Ok columns
+board_columns-even all header records columns is even are rows entries =
+    let rows_fit = le-ltb ROWS (length records) rows in
+    let entries_fit : nat_lt ENTRIES (length records * length (columns_of header records)) ≡ false = rw are at (le-ltb ENTRIES (length records * length columns) entries) in
+    rw (is, even, rows_fit, entries_fit, are) refl
 
--- and for a name that stands among those before it
-pub name-twice : (header : List (List ℕ)) (i : ℕ) (name text : List ℕ) (columns : List Column) → field_at header i ≡ Some name → IsReadTo header i → text ≡ name → columns ≡ map int_column (take i header)
-    → is_some (position (λ column. bytes_eq column.name text) columns) ≡ true → takes_header header ≡ false
-name-twice header i name text columns there read same made found =
-    let stands = sym (name-stands header i name text columns same made) ∙ found in
-    let no : (is_utf8 name && false) ≡ false = and_right (is_utf8 name) false refl in
-    let more = are_new (take (i + 1) header) (drop (i + 1) header) in
-    and_right (nat_le (length header) 32) (are_new [] header) (are_new-at header i name there read ∙ ap (λ b. is_utf8 name && not b && more) stands ∙ ap (λ b. b && more) no)
+pub board_columns-uneven : (all : List (List (List ℕ))) (header : List (List ℕ)) (records : List (List (List ℕ))) (place : ℕ) → all ≡ header ∷ records → uneven_place (length header) records ≡ Some place
+    → board_columns all ≡ Err (UnevenRecord (place + 1))
+board_columns-uneven all header records place is uneven = rw (is, uneven) refl
 
--- one column more
-pub name-more : (header : List (List ℕ)) (i : ℕ) (name text copy : List ℕ) (columns : List Column) → field_at header i ≡ Some name → IsReadTo header i → text ≡ name → columns ≡ map int_column (take i header)
-    → IsUtf8 name → is_some (position (λ column. bytes_eq column.name text) columns) ≡ false → copy ≡ name
-    → (columns ++ int_column copy ∷ [] ≡ map int_column (take (i + 1) header)) × IsReadTo header (i + 1)
-name-more header i name text copy columns there read same made utf8 found copied =
-    let at = field_at-some header i name there in
-    let stands = sym (name-stands header i name text columns same made) ∙ found in
-    let more = are_new (take (i + 1) header) (drop (i + 1) header) in
-    let column : int_column copy ≡ int_column (get_or header i []) = ap int_column (copied ∙ sym at.1) in (
-      ap (λ cs. cs ++ int_column copy ∷ []) made ∙ ap (λ (c : Column). map int_column (take i header) ++ c ∷ []) column ∙ sym (map_more int_column header i [] at.0),
-      are_new-at header i name there read ∙ ap (λ b. is_utf8 name && not b && more) stands ∙ ap (λ b. b && true && more) (is_utf8-from_IsUtf8 name utf8),
-    )
+pub board_columns-records : (all : List (List (List ℕ))) (header : List (List ℕ)) (records : List (List (List ℕ))) (count : ℕ) → all ≡ header ∷ records → uneven_place (length header) records ≡ None
+    → count ≡ length records → ROWS < count → board_columns all ≡ Err (TooManyRecords count)
+board_columns-records all header records count is even same more =
+    let many : nat_lt ROWS (length records) ≡ true = rw same at (lt-ltb ROWS count more) in
+    rw (is, even, many, same) refl
 
--- all columns, behind the last name
-pub columns-all : (header : List (List ℕ)) (i : ℕ) (columns : List Column) → length header ≤ 32 → length header ≤ i → IsReadTo header i → columns ≡ map int_column (take i header)
-    → Some columns ≡ (if takes_header header then Some (map int_column header) else None)
-columns-all header i columns few h read made =
-    let all = take_all i header h in
-    let same : columns ≡ map int_column header = made ∙ ap (map int_column) all in
-    let new : are_new [] header ≡ true = read ∙ ap (are_new (take i header)) (drop_all i header h) in
-    let takes : takes_header header ≡ true = and_from (nat_le (length header) 32) (are_new [] header) (le-leb (length header) 32 few) new in
-    rw (takes, same) refl
+pub board_columns-entries : (all : List (List (List ℕ))) (header : List (List ℕ)) (records : List (List (List ℕ))) (columns : List Column) (entries : ℕ) → all ≡ header ∷ records → uneven_place (length header) records ≡ None
+    → columns ≡ columns_of header records → length records ≤ ROWS → entries ≡ length records * length columns → ENTRIES < entries → board_columns all ≡ Err (TooManyEntries entries)
+board_columns-entries all header records columns entries is even are rows same more =
+    let rows_fit = le-ltb ROWS (length records) rows in
+    let many : nat_lt ENTRIES (length records * length (columns_of header records)) ≡ true = rw (same, are) at (lt-ltb ENTRIES entries more) in
+    rw (is, even, rows_fit, many, same, are) refl
 
--- the cells of one field more
-pub cells-more : (fields : List (List ℕ)) (i : ℕ) (field : List ℕ) (cells : List Cell) (number : ℤ) → field_at fields i ≡ Some field → number_of field 0 ≡ Ok number
-    → cells ≡ map number_cell (take i fields) → list_all is_number (take i fields) ≡ true
-    → (cells ++ cell.Num number ∷ [] ≡ map number_cell (take (i + 1) fields)) × (list_all is_number (take (i + 1) fields) ≡ true)
-cells-more fields i field cells number there reads have numbers =
-    let at = field_at-some fields i field there in
-    let read = read-ok (number_of field 0) number reads in
-    let gives : number_cell (get_or fields i []) ≡ cell.Num number = ap number_cell at.1 ∙ read.1 in
-    let passes : is_number (get_or fields i []) ≡ true = ap is_number at.1 ∙ read.0 in
-    let here : cells ++ cell.Num number ∷ [] ≡ map number_cell (take i fields) ++ number_cell (get_or fields i []) ∷ [] = rw (have, gives) refl in (
-      here ∙ sym (map_more number_cell fields i [] at.0),
-      list_all_more is_number fields i [] at.0 ∙ and_from (list_all is_number (take i fields)) (is_number (get_or fields i [])) numbers passes,
-    )
+-- all columns of a header
+pub named-all : (header : List (List ℕ)) (i : ℕ) → length header ≤ i
+    → map (λ column. column.0) (filter (is_named header) (take i (enumerate_from 0 header))) ≡ map (λ column. column.0) (filter (is_named header) (enumerate_from 0 header))
+named-all header i past = ap (λ (xs : List (ℕ × List ℕ)). map (λ column. column.0) (filter (is_named header) xs)) (take_all i (enumerate_from 0 header) (omega (arith, length-enumerate_from 0 header)))
 
--- a field that is no number is one among all
-pub numbers-not : (fields : List (List ℕ)) (i : ℕ) (field : List ℕ) (refusal : NumberRefusal) → field_at fields i ≡ Some field → number_of field 0 ≡ Err refusal → list_all is_number fields ≡ false
-numbers-not fields i field refusal there reads =
-    let at = field_at-some fields i field there in
-    list_all_at is_number fields i [] at.0 (ap is_number at.1 ∙ read-err (number_of field 0) refusal reads)
+-- no more places are there than all
+pub take-min : (places : List ℕ) (count most : ℕ) → count ≡ min (length places) most → take count places ≡ take most places
+take-min places count most is = ap (λ n. take n places) (is ∙ omega arith) ∙ take_min most places
 
--- all cells, behind the last field
-pub cells-all : (fields : List (List ℕ)) (i : ℕ) (cells : List Cell) → length fields ≤ i → cells ≡ map number_cell (take i fields) → list_all is_number (take i fields) ≡ true
-    → Some cells ≡ (if list_all is_number fields then Some (map number_cell fields) else None)
-cells-all fields i cells h have numbers =
-    let all = take_all i fields h in
-    let every : list_all is_number fields ≡ true = ap (list_all is_number) (sym all) ∙ numbers in
-    let same : cells ≡ map number_cell fields = have ∙ ap (map number_cell) all in
-    rw (every, same) refl
-
--- three tests in another order
-and-turned : (a b c : Bool) → (a && b && c) ≡ ((c && true) && a && b)
-and-turned true true true = refl
-and-turned true true false = refl
-and-turned true false true = refl
-and-turned true false false = refl
-and-turned false true true = refl
-and-turned false true false = refl
-and-turned false false true = refl
-and-turned false false false = refl
-
--- a last test that fails
-and-last : (a b : Bool) → (a && b && false) ≡ false
-and-last true true = refl
-and-last true false = refl
-and-last false b = refl
-
--- a middle test that fails
-and-middle : (a b : Bool) → (a && false && b) ≡ false
-and-middle true b = refl
-and-middle false b = refl
-
--- one record more, where what is taken with it was taken without it
-after-step : {X Y : Type 0} (a b c d e f : Bool) (x : X) (y : Y) (after : Option X → Option Y) → after None ≡ None → after (Some x) ≡ (if d && e && f then Some y else None)
-    → (d ≡ true → b ≡ true) → (e ≡ true → c ≡ true) → after (if a && b && c then Some x else None) ≡ (if (a && (f && true)) && d && e then Some y else None)
-after-step false b c d e f x y after none some up wide = none
-after-step true true true d e f x y after none some up wide = some ∙ ap (λ t. if t then Some y else None) (and-turned d e f)
-after-step true false c true e f x y after none some up wide = cc (up refl)
-after-step true false c false e f x y after none some up wide = none ∙ ap (λ t. if t then Some y else None) (sym (and-middle (f && true) e))
-after-step true true false d true f x y after none some up wide = cc (wide refl)
-after-step true true false d false f x y after none some up wide = none ∙ ap (λ t. if t then Some y else None) (sym (and-last (f && true) d))
-
--- what holds of one more holds of fewer
-fewer : (n m : ℕ) → nat_le (n + 1) m ≡ true → nat_le n m ≡ true
-fewer n m h = le-leb n m (omega (arith, leb-true (n + 1) m h))
-
--- and of their product
-less : (n w m : ℕ) → nat_le ((n + 1) * w) m ≡ true → nat_le (n * w) m ≡ true
-less n w m h = le-leb (n * w) m (omega (arith, leb-true ((n + 1) * w) m h))
-
--- the rows of one record more are those of the records with it
-rows_after-taken : (w : ℕ) (taken : List (List (List ℕ))) (fields : List (List ℕ)) → length fields ≡ w → rows_after (rows_taken w taken) fields ≡ rows_taken w (taken ++ fields ∷ [])
-rows_after-taken w taken fields h =
-    let rows = λ (rs : List (List (List ℕ))). map (λ (fs : List (List ℕ)). map number_cell fs) rs in
-    let all = λ (rs : List (List (List ℕ))). list_all (λ (fs : List (List ℕ)). list_all is_number fs) rs in
-    let n = length taken in
-    let some : rows_after (Some (rows taken)) fields ≡ (if nat_le (n + 1) 1000000 && nat_le ((n + 1) * w) 16000000 && list_all is_number fields then Some (rows taken ++ map number_cell fields ∷ []) else None) =
-    rw (length-map, h) refl in
-    let step = after-step (all taken) (nat_le n 1000000) (nat_le (n * w) 16000000) (nat_le (n + 1) 1000000) (nat_le ((n + 1) * w) 16000000) (list_all is_number fields) (rows taken) (rows taken ++ map number_cell fields ∷ []) (λ o. rows_after o fields) refl some (fewer n 1000000) (less n w 16000000) in
-    step ∙ rw (list_all-append, length_push, map-append) refl
-
--- the rows of the records that are left, behind `number` of them that gave these rows
-abbrev pub rows_from : ℕ → ℕ → Option (List (List Cell)) → List (List (List ℕ)) → Result (Option (List (List Cell))) BoardFault
-rows_from width number rows [] = Ok rows
-rows_from width number rows (fields ∷ records) = if length fields == width then rows_from width (number + 1) (rows_after rows fields) records else Err (UnevenRecord (number + 1))
-
--- one record more of those that are left
-rows_from-step : (b : Bool) (w : ℕ) (taken : List (List (List ℕ))) (fields : List (List ℕ)) (records : List (List (List ℕ))) → (length fields == w) ≡ b
-    → rows_from w (length (taken ++ fields ∷ [])) (rows_taken w (taken ++ fields ∷ [])) records ≡ even_rows w ((taken ++ fields ∷ []) ++ records) (first_uneven w (length (taken ++ fields ∷ []) + 1) records)
-    → rows_from w (length taken) (rows_taken w taken) (fields ∷ records) ≡ even_rows w (taken ++ fields ∷ records) (first_uneven w (length taken + 1) (fields ∷ records))
-rows_from-step true w taken fields records e more =
-    let width = eqb-true (length fields) w e in
-    let taken-one = length_push taken fields in
-    let joined : (taken ++ fields ∷ []) ++ records ≡ taken ++ fields ∷ records = append_assoc taken (fields ∷ []) records in
-    rw (e, rows_after-taken w taken fields width, ← taken-one, more, joined) refl
-rows_from-step false w taken fields records e more = rw e refl
-
--- from any record on, the rows are those of all records
-rows_from-is : (w : ℕ) (taken records : List (List (List ℕ))) → rows_from w (length taken) (rows_taken w taken) records ≡ even_rows w (taken ++ records) (first_uneven w (length taken + 1) records)
-rows_from-is w taken [] = ap (λ (rs : List (List (List ℕ))). Ok (rows_taken w rs)) (sym (append-nil taken))
-rows_from-is w taken (fields ∷ records) = rows_from-step (length fields == w) w taken fields records refl (rows_from-is w (taken ++ fields ∷ []) records)
-
--- so they are from the first on
-pub rows_from-start : (w : ℕ) (records : List (List (List ℕ))) → rows_from w 0 (Some []) records ≡ rows_or_uneven w records
-rows_from-start w records =
-    let none : rows_taken w [] ≡ Some [] = rw (zero-mul w) refl in
-    ap (λ rows. rows_from w 0 rows records) (sym none) ∙ rows_from-is w [] records
-
--- one record more, of the header's width
-pub rows_from-even : (w number : ℕ) (rows : Option (List (List Cell))) (fields : List (List ℕ)) (before after : List (List (List ℕ))) → before ≡ fields ∷ after → length fields ≡ w
-    → rows_from w number rows before ≡ rows_from w (number + 1) (rows_after rows fields) after
-rows_from-even w number rows fields before after e width = rw (e, eq-eqb (length fields) w width) refl
-
--- one record more, of another width
-pub rows_from-uneven : (w number : ℕ) (rows : Option (List (List Cell))) (fields : List (List ℕ)) (before after : List (List (List ℕ))) → before ≡ fields ∷ after → (length fields ≡ w → ⊥)
-    → rows_from w number rows before ≡ Err (UnevenRecord (number + 1))
-rows_from-uneven w number rows fields before after e width = rw (e, ne_eqb (length fields) w width) refl
-
--- one record more is one fewer ahead
-pub length-next : (fields : List (List ℕ)) (before after : List (List (List ℕ))) → before ≡ fields ∷ after → length before ≡ length after + 1
-length-next fields before after e = omega (arith, ap length e)
+-- within the limits the number of entries is small
+pub entries-fit : (count columns : ℕ) → count ≤ ROWS → columns ≤ DIMENSIONS → count * columns < 2 ^ 64
+entries-fit count columns rows few = omega (arith, mul-le-mul {n₁ = count} {m₁ = columns} {n₂ = ROWS} {m₂ = DIMENSIONS} rows few)

@@ -1,7 +1,7 @@
 pub mod BoardFacts
-pub mod BoardIs
-pub mod CsvRecords
+pub mod BoardRows
 pub mod FilterOutcome
+pub mod NumberText
 pub mod Put
 pub mod Replayed
 pub mod RunFacts

@@ -55,5 +55,6 @@ pub ends-refused : (cause : BoardFault) (line : List ℕ) (before after : SinkAc
     → Ends (record { status = status.BoardRefused; text = line }) before after got → EndsRefused cause before after got
 ends-refused fault.NoHeader line before after got other e told = subst (λ (text : List ℕ). Ends (record { status = status.BoardRefused; text = text }) before after got) e told
 ends-refused (fault.UnevenRecord number) line before after got other e told = subst (λ (text : List ℕ). Ends (record { status = status.BoardRefused; text = text }) before after got) e told
-ends-refused fault.NotBuilt line before after got other e told = subst (λ (text : List ℕ). Ends (record { status = status.BoardRefused; text = text }) before after got) e told
+ends-refused (fault.TooManyRecords more) line before after got other e told = subst (λ (text : List ℕ). Ends (record { status = status.BoardRefused; text = text }) before after got) e told
+ends-refused (fault.TooManyEntries more) line before after got other e told = subst (λ (text : List ℕ). Ends (record { status = status.BoardRefused; text = text }) before after got) e told
 ends-refused fault.OutOfMemory line before after got other e told = absurd (other refl)

@@ -214,7 +214,8 @@ run-refused seen name session bytes read cause got names held quiet is found h =
     go : (own : BoardFault) → read ≡ Err own → EndsRefused own seen.before.sink seen.after.sink got → IsRun seen got
     go fault.NoHeader e end = refusal fault.NoHeader (λ o. cc o) e end
     go (fault.UnevenRecord number) e end = refusal (fault.UnevenRecord number) (λ o. cc o) e end
-    go fault.NotBuilt e end = refusal fault.NotBuilt (λ o. cc o) e end
+    go (fault.TooManyRecords more) e end = refusal (fault.TooManyRecords more) (λ o. cc o) e end
+    go (fault.TooManyEntries more) e end = refusal (fault.TooManyEntries more) (λ o. cc o) e end
     go fault.OutOfMemory e end = silent-memory seen got quiet end
 
 -- a board that was read is what the definition says

@@ -1,68 +1,67 @@
--- What a file of whole numbers means as a board, or why it is refused.
-use Rattle.std.specs.Prelude.{ℕ, ◌+◌, ◌*◌, ◌==◌, nat_le, Bool, true, ◌&&◌, not, if◌then◌else◌, pos, List, [], ◌∷◌, ◌++◌, length, map, Option, Some, None, Result, Ok, Err, is_ok}
-use Rattle.std.specs.List.{list_all, list_any}
-use Rattle.std.specs.Result.{result_unwrap_or}
+-- What a CSV file means as a board, or why it is none.
+use Rattle.std.specs.Prelude.{ℕ, ◌+◌, ◌*◌, ◌==◌, nat_lt, Bool, ◌&&◌, not, if◌then◌else◌, List, [], ◌∷◌, length, map, filter, take, position, unwrap_or, slice_get, Option, Some, None, Result, Ok, Err, is_ok}
+use Rattle.std.specs.List.{enumerate_from, list_all, list_any}
+use Rattle.std.specs.Result.{result_map_both, result_unwrap_or}
 use Rattle.std.specs.Str.{bytes_eq, is_utf8}
 use Rattle.xf_app.specs.BoardParts.{BoardParts}
-use Rattle.xf_app.specs.Records.{records_of}
 use Rattle.xf_app.specs.declared.board.BoardFault.{BoardFault}
-use Rattle.xf_app.specs.declared.board.BoardFault.TheVariants.{NoHeader, UnevenRecord, NotBuilt}
+use Rattle.xf_app.specs.declared.board.BoardFault.TheVariants.{NoHeader, UnevenRecord, TooManyRecords, TooManyEntries}
 use Rattle.xf_base.specs.Fixed.{number_of}
-use Rattle.xf_base.specs.declared.limits.TheConstants.Limits.{DIMENSIONS, ENTRIES, ROWS}
-use Rattle.xf_base.specs.declared.cell.Cell.{Cell}
-use Rattle.xf_base.specs.declared.cell.Cell.TheVariants as cell
 use Rattle.xf_base.specs.declared.column.Column.{Column}
 use Rattle.xf_base.specs.declared.column.ColumnKind.TheVariants as kind
+use Rattle.xf_base.specs.declared.limits.TheConstants.Limits.{DIMENSIONS, ENTRIES, ROWS}
+use Rattle.xf_load.specs.Load.{rows_of}
+use Rattle.xf_load.specs.Records.{records_of}
 
--- the number, counted from `first` on, of the first record with another number of fields than `width`
-abbrev pub first_uneven : ℕ → ℕ → List (List (List ℕ)) → Option ℕ
-first_uneven width first [] = None
-first_uneven width first (fields ∷ records) = if length fields == width then first_uneven width (first + 1) records else Some first
+-- the place of the first record with another number of fields than the header
+abbrev pub uneven_place : ℕ → List (List (List ℕ)) → Option ℕ
+uneven_place width records = position (λ fields. not (length fields == width)) records
 
--- each name is UTF-8 and stands nowhere earlier in the header, nor among those seen before
-abbrev pub are_new : List (List ℕ) → List (List ℕ) → Bool
-are_new seen [] = true
-are_new seen (name ∷ names) = is_utf8 name && not (list_any (bytes_eq name) seen) && are_new (seen ++ name ∷ []) names
+-- the field of a record at a place
+abbrev pub field_of : List (List ℕ) → ℕ → List ℕ
+field_of fields place = unwrap_or (slice_get fields place) []
 
--- every column of the header is one of the board: there are few enough, and each has a name of its own
-abbrev pub takes_header : List (List ℕ) → Bool
-takes_header header = nat_le (length header) DIMENSIONS && are_new [] header
+-- a field is a whole number
+abbrev pub is_number : List ℕ → Bool
+is_number field = is_ok (number_of field 0)
+
+-- every field at this place is a whole number
+abbrev pub is_number_column : List (List (List ℕ)) → ℕ → Bool
+is_number_column records place = list_all (λ fields. is_number (field_of fields place)) records
+
+-- the name at this place of the header is UTF-8 and stands nowhere earlier in it
+abbrev pub is_named : List (List ℕ) → ℕ × List ℕ → Bool
+is_named header (place, name) = is_utf8 name && not (list_any (bytes_eq name) (take place header))
+
+-- a column of the header is one of the board
+abbrev pub is_chosen : List (List ℕ) → List (List (List ℕ)) → ℕ × List ℕ → Bool
+is_chosen header records (place, name) = is_named header (place, name) && is_number_column records place
 
 -- a column of whole numbers
 abbrev pub int_column : List ℕ → Column
 int_column name = record { name = name; kind = kind.Int; blank = None }
 
--- a field that is a whole number, and the cell that it gives
-abbrev pub is_number : List ℕ → Bool
-is_number field = is_ok (number_of field 0)
+-- the columns of the board: the first of those that are chosen
+abbrev pub columns_of : List (List ℕ) → List (List (List ℕ)) → List Column
+columns_of header records = map (λ (place, name). int_column name) (take DIMENSIONS (filter (is_chosen header records) (enumerate_from 0 header)))
 
-abbrev pub number_cell : List ℕ → Cell
-number_cell field = cell.Num (result_unwrap_or (number_of field 0) (pos 0))
+-- the same, unless a record is uneven, or there are too many records or entries
+abbrev pub columns_unless : List (List ℕ) → List (List (List ℕ)) → Option ℕ → Result (List Column) BoardFault
+columns_unless header records (Some place) = Err (UnevenRecord (place + 1))
+columns_unless header records None =
+    if nat_lt ROWS (length records) then Err (TooManyRecords (length records))
+    else if nat_lt ENTRIES (length records * length (columns_of header records)) then Err (TooManyEntries (length records * length (columns_of header records)))
+    else Ok (columns_of header records)
 
--- every field is a whole number, and there are few enough records and entries, one for each field
-abbrev pub takes_records : ℕ → List (List (List ℕ)) → Bool
-takes_records width records =
-    list_all (λ fields. list_all is_number fields) records && nat_le (length records) ROWS && nat_le (length records * width) ENTRIES
+-- the columns of the board of these records, the first of which is the header
+abbrev pub board_columns : List (List (List ℕ)) → Result (List Column) BoardFault
+board_columns [] = Err NoHeader
+board_columns (header ∷ records) = columns_unless header records (uneven_place (length header) records)
 
--- the rows of the records, where they are taken
-abbrev pub rows_taken : ℕ → List (List (List ℕ)) → Option (List (List Cell))
-rows_taken width records = if takes_records width records then Some (map (λ fields. map number_cell fields) records) else None
-
--- a header and the rows below it as a board, where both are taken
-abbrev pub board_if_taken : List (List ℕ) → Option (List (List Cell)) → Result BoardParts BoardFault
-board_if_taken header None = Err NotBuilt
-board_if_taken header (Some rows) = if takes_header header then Ok (record { columns = map int_column header; rows = rows }) else Err NotBuilt
-
--- unevenness comes before all else that is said of the records
-abbrev pub board_unless_uneven : List (List ℕ) → List (List (List ℕ)) → Option ℕ → Result BoardParts BoardFault
-board_unless_uneven header records (Some number) = Err (UnevenRecord number)
-board_unless_uneven header records None = board_if_taken header (rows_taken (length header) records)
-
--- the board of a header and its records
-abbrev pub board_of_records : List (List (List ℕ)) → Result BoardParts BoardFault
-board_of_records [] = Err NoHeader
-board_of_records (header ∷ records) = board_unless_uneven header records (first_uneven (length header) 1 records)
+-- a board of these columns, with the rows that a file has in them, which are never refused
+abbrev pub board_with : List ℕ → List Column → BoardParts
+board_with bytes columns = record { columns = columns; rows = result_unwrap_or (rows_of columns bytes) [] }
 
 -- the board of a file
 abbrev pub board_of : List ℕ → Result BoardParts BoardFault
-board_of bytes = board_of_records (records_of bytes)
+board_of bytes = result_map_both (board_with bytes) (λ fault. fault) (board_columns (records_of bytes))

@@ -13,7 +13,7 @@ use Rattle.xf_app.specs.declared.status.Status.{Status}
 use Rattle.xf_app.specs.declared.status.Status.TheVariants as status
 use Rattle.xf_base.specs.Bounds.{standard}
 use Rattle.xf_base.specs.Word.{word_text}
-use Rattle.xf_base.specs.declared.limits.TheConstants.Limits.{FILE_BYTES}
+use Rattle.xf_base.specs.declared.limits.TheConstants.Limits.{ENTRIES, FILE_BYTES, ROWS}
 use Rattle.xf_engine.specs.Cross.{State}
 use Rattle.xf_model.specs.Replay.{Progress, replay}
 use Rattle.xf_outside.specs.Account.{Files}
@@ -38,7 +38,8 @@ too_long_line name = codes "too long " ++ word_text name ++ 32 ∷ decimal FILE_
 abbrev pub board_cause : BoardFault → List ℕ
 board_cause fault.NoHeader = codes "no header"
 board_cause (fault.UnevenRecord number) = codes "uneven record " ++ decimal number
-board_cause fault.NotBuilt = codes "not built"
+board_cause (fault.TooManyRecords more) = codes "too many records 0 " ++ decimal more ++ 32 ∷ decimal ROWS
+board_cause (fault.TooManyEntries more) = codes "too many entries 0 " ++ decimal more ++ 32 ∷ decimal ENTRIES
 board_cause fault.OutOfMemory = codes "out of memory"
 
 abbrev pub refused_line : BoardFault → List ℕ

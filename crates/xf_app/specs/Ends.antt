@@ -39,7 +39,8 @@ EndsSilent wanted before after got = (got ≡ wanted) × (after ≡ before)
 abbrev pub EndsRefused : BoardFault → SinkAccount → SinkAccount → Status → Type 0
 EndsRefused fault.NoHeader before after got = Ends (refused_due fault.NoHeader) before after got
 EndsRefused (fault.UnevenRecord number) before after got = Ends (refused_due (fault.UnevenRecord number)) before after got
-EndsRefused fault.NotBuilt before after got = Ends (refused_due fault.NotBuilt) before after got
+EndsRefused (fault.TooManyRecords more) before after got = Ends (refused_due (fault.TooManyRecords more)) before after got
+EndsRefused (fault.TooManyEntries more) before after got = Ends (refused_due (fault.TooManyEntries more)) before after got
 EndsRefused fault.OutOfMemory before after got = EndsSilent status.Memory before after got
 
 -- the end of a run for which a file was not fetched

@@ -1,11 +1,9 @@
 pub mod Board
 pub mod BoardParts
-pub mod BoardSteps
 pub mod Due
 pub mod Ends
 pub mod Page
 pub mod Put
-pub mod Records
 pub mod Run
 pub mod Script
 pub mod Session

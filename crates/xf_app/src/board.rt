@@ -1,23 +1,22 @@
-//! The standard board of a CSV file: a column for each name of the header, and a row for each record below it.
-ghost use Rattle.std.specs.Prelude.{◌≡◌, ◌⊎◌, ◌<◌, ◌^◌, ◌+◌, ◌*◌, ◌&&◌, nat_le, Some, None, Err, IfOk, length, map, if◌then◌else◌};
+//! The standard board of a CSV file: its columns of whole numbers, and a row for each record below the header.
+ghost use Rattle.std.specs.Prelude.{◌≡◌, ◌⊎◌, ◌<◌, ◌≤◌, ◌^◌, ◌+◌, ◌*◌, Some, None, Ok, Err, IfOk, IfErr, OnOk, IsSomeAnd, length, map, filter, take, nat_lt, if◌then◌else◌};
+ghost use Rattle.std.specs.List.{All, enumerate_from};
+ghost use Rattle.std.specs.Str.{IsUtf8};
 ghost use Rattle.csv.specs.Records.{fields_of};
-ghost use Rattle.xf_app.specs.Records.{IsReading, records_ahead};
-ghost use Rattle.xf_app.specs.Board.{board_of, int_column, is_number, number_cell, takes_header};
-ghost use Rattle.xf_app.specs.BoardSteps.{rows_after, rows_or_uneven};
-ghost use Rattle.std.specs.List.{list_all};
+ghost use Rattle.xf_app.specs.Board.{board_columns, board_of, field_of, int_column, is_named, is_number, is_number_column, uneven_place};
+ghost use Rattle.xf_load.specs.Load.{rows_of};
+ghost use Rattle.xf_load.specs.Records.{records_of};
 
 #[cfg(test)]
 mod tests;
 
-use crate::load::{read_next, reader_of};
-use csv::{ByteRecord, Reader};
+use csv::ByteRecord;
 use std::alloc::Global;
-use std::io::Read;
+use std::collections::HashSet;
 use std::marker::Model;
 use thiserror::Error;
-use xf_base::{
-    Cell, Column, ColumnKind, Limits, ListOf, OutOfMemory, Row, RowList, Schema, Text, read_fixed,
-};
+use xf_base::{Column, ColumnKind, Limits, OutOfMemory, RowList, Schema, Text, read_fixed};
+use xf_load::{RecordReader, records_of};
 
 /// The columns of a board, and its records: at most as many columns, records and entries as a crossfilter takes, all
 /// columns of whole numbers, and each row of these columns.
@@ -43,13 +42,15 @@ pub enum BoardFault {
     /// There is no record, so no header.
     #[error("no header")]
     NoHeader,
-    /// A record, numbered from 1 below the header, has another number of fields than the header.
+    /// A record, numbered from 1 after the header, has another number of fields than the header.
     #[error("uneven record {number}")]
     UnevenRecord { number: u64 },
-    /// The file is more than this program takes today: not all columns are of whole numbers under a name of their
-    /// own, or there are more columns, records or entries than a crossfilter takes.
-    #[error("not built")]
-    NotBuilt,
+    /// There are `more` records after the header, above 1,000,000.
+    #[error("too many records {more}")]
+    TooManyRecords { more: u64 },
+    /// The records have `more` fields in the columns of the board, above 16,000,000.
+    #[error("too many entries {more}")]
+    TooManyEntries { more: u64 },
     /// Memory was refused, at whatever step.
     #[error("out of memory")]
     OutOfMemory,
@@ -66,118 +67,117 @@ impl From<OutOfMemory> for BoardFault {
     }
 }
 
-/// A column for each name of a header, or None where a name is not UTF-8 or stands twice, or there are too many.
-fn schema_of(alloc: Global, header: &ByteRecord) -> Result<Option<Schema>, OutOfMemory>
-    ensures { IfOk result (λ schema. schema
-        ≡ (if takes_header (fields_of header.now) then Some (map int_column (fields_of header.now)) else None)) }
+/// The board of a file, or the first cause for which there is none. The file is read twice: once for the choice of its
+/// columns, and once for the rows.
+pub fn read_board(alloc: Global, bytes: &[u8]) -> Result<Board, BoardFault>
+    ensures board { (result ≡ Err BoardFault.OutOfMemory) ⊎ (result ≡ board_of bytes.now) }
+
+    // The rows are never refused.
+    ensures rows { IfOk result (λ board. rows_of board.columns bytes.now ≡ Ok board.rows) }
 {
-    if header.len() as u64 > Limits::DIMENSIONS {
-        return Ok(None);
+    let schema = board_schema(alloc, bytes)?;
+    // Each chosen column stands in the header and takes every field below, so that memory alone can be wanting.
+    match records_of(alloc, &schema, bytes) {
+        Ok(rows) => Ok(Board { schema, rows }),
+        Err(_refusal) => Err(BoardFault::OutOfMemory),
     }
-    let mut schema = Schema::new(alloc);
-    for i in 0..header.len() {
-        let Some(name) = header.get(i) else {
-            return Ok(None);
-        };
-        let Ok(name) = str::from_utf8(name) else {
-            return Ok(None);
-        };
-        if schema.place_of(name.as_bytes()).is_some() {
-            return Ok(None);
+}
+
+/// The columns of the board of a file.
+fn board_schema(alloc: Global, bytes: &[u8]) -> Result<Schema, BoardFault>
+    ensures { (result ≡ Err BoardFault.OutOfMemory) ⊎ (result ≡ board_columns (records_of bytes.now)) }
+{
+    let mut reader = RecordReader::new(alloc, bytes)?;
+    let mut header = ByteRecord::new(alloc);
+    if !reader.read(&mut header)? {
+        return Err(BoardFault::NoHeader);
+    }
+    let mut places = named_places(alloc, &header)?;
+    let count = count_records(alloc, &mut reader, header.len(), &mut places)?;
+    let schema = int_schema(alloc, &header, places.as_slice())?;
+    if count > Limits::ROWS {
+        return Err(BoardFault::TooManyRecords { more: count });
+    }
+    let entries = count * schema.len() as u64;
+    if entries > Limits::ENTRIES {
+        return Err(BoardFault::TooManyEntries { more: entries });
+    }
+    Ok(schema)
+}
+
+/// The places of the names of a header that are UTF-8 and stand nowhere earlier in it.
+fn named_places(alloc: Global, header: &ByteRecord) -> Result<Vec<usize>, OutOfMemory>
+    ensures { IfOk result (λ places. places.items
+        ≡ map (λ column. column.0) (filter (is_named (fields_of header.now)) (enumerate_from 0 (fields_of header.now)))) }
+{
+    let mut names = HashSet::new(alloc);
+    let mut places = Vec::new(alloc);
+    for place in 0..header.len() {
+        let name = field_of(header, place);
+        if names.insert(name)? && str::from_utf8(name).is_ok() {
+            places.push(place)?;
         }
+    }
+    Ok(places)
+}
+
+/// The field of a record at a place; an empty one where there is none.
+fn field_of(fields: &ByteRecord, place: usize) -> &[u8]
+    ensures { result.now ≡ field_of (fields_of fields.now) place }
+{
+    fields.get(place).unwrap_or(&[])
+}
+
+/// Reads all records, and gives their number. Of the places those are kept at which every field is a whole number.
+fn count_records(
+    alloc: Global,
+    reader: &mut RecordReader<'_>,
+    width: usize,
+    places: &mut Vec<usize>,
+) -> Result<u64, BoardFault>
+    requires few { length reader.old < 2 ^ 63 }
+    ensures count { IfOk result (λ count. count ≡ length reader.old) }
+    ensures even { OnOk result (uneven_place width reader.old ≡ None) }
+    ensures kept { OnOk result (places.new.items ≡ filter (is_number_column reader.old) places.old.items) }
+    ensures refused { IfErr result (λ fault. (fault ≡ BoardFault.OutOfMemory)
+        ⊎ IsSomeAnd (uneven_place width reader.old) (λ place. fault ≡ BoardFault.UnevenRecord (place + 1))) }
+{
+    let mut record = ByteRecord::new(alloc);
+    let mut number: u64 = 0;
+    while reader.read(&mut record)? {
+        number += 1;
+        if record.len() != width {
+            return Err(BoardFault::UnevenRecord { number });
+        }
+        keep_numbers(places, &record);
+    }
+    Ok(number)
+}
+
+/// Keeps those places at which a record has a whole number.
+fn keep_numbers(places: &mut Vec<usize>, fields: &ByteRecord)
+    ensures { places.new.items ≡ filter (λ place. is_number (field_of (fields_of fields.now) place)) places.old.items }
+{
+    places.retain(|place| read_fixed(field_of(fields, *place), 0).is_ok());
+}
+
+/// Columns of whole numbers for the first names, at most as many as a board has.
+fn int_schema(alloc: Global, header: &ByteRecord, places: &[usize]) -> Result<Schema, OutOfMemory>
+    requires { All (λ place. IsUtf8 (field_of (fields_of header.now) place)) places.now }
+    ensures { IfOk result (λ schema. schema
+        ≡ map (λ place. int_column (field_of (fields_of header.now) place)) (take Limits.DIMENSIONS places.now)) }
+{
+    let mut schema = Schema::new(alloc);
+    let chosen = &places[..places.len().min(Limits::DIMENSIONS as usize)];
+    for place in chosen {
+        let Ok(name) = str::from_utf8(field_of(header, *place)) else {
+            unreachable!()
+        };
         schema.push(Column {
             name: Text::of(alloc, name)?,
             kind: ColumnKind::Int,
             blank: None,
         })?;
     }
-    Ok(Some(schema))
-}
-
-/// The numbers of a record, or None where a field is no whole number.
-fn row_of(alloc: Global, fields: &ByteRecord) -> Result<Option<Row>, OutOfMemory>
-    ensures { IfOk result (λ row. row
-        ≡ (if list_all is_number (fields_of fields.now) then Some (map number_cell (fields_of fields.now)) else None)) }
-{
-    let mut cells = Vec::with_capacity(alloc, fields.len())?;
-    for i in 0..fields.len() {
-        let Some(field) = fields.get(i) else {
-            return Ok(None);
-        };
-        let Ok(number) = read_fixed(field, 0) else {
-            return Ok(None);
-        };
-        cells.push(Cell::Num(number))?;
-    }
-    Ok(Some(ListOf::from_vec(cells)))
-}
-
-/// Whether a board of so many rows may have one more, where each row has so many fields.
-fn has_room(rows: usize, fields: usize) -> bool
-    ensures { result ≡ (nat_le (rows + 1) Limits.ROWS && nat_le ((rows + 1) * fields) Limits.ENTRIES) }
-{
-    let (rows, fields) = (rows as u64, fields as u64);
-    rows < Limits::ROWS && fields <= Limits::ENTRIES / (rows + 1)
-}
-
-/// The rows so far with those of one record more, as long as all are taken.
-fn with_record(
-    alloc: Global,
-    rows: Option<RowList>,
-    fields: &ByteRecord,
-) -> Result<Option<RowList>, OutOfMemory>
-    ensures { IfOk result (λ after. after ≡ rows_after rows (fields_of fields.now)) }
-{
-    let Some(mut rows) = rows else {
-        return Ok(None);
-    };
-    if !has_room(rows.len(), fields.len()) {
-        return Ok(None);
-    }
-    let Some(row) = row_of(alloc, fields)? else {
-        return Ok(None);
-    };
-    rows.push(row)?;
-    Ok(Some(rows))
-}
-
-/// The rows of the records that a reader has yet to give, or None where they are not taken. Every record is read, so
-/// that an uneven one is found wherever it stands.
-fn read_rows<R: Read>(
-    alloc: Global,
-    reader: &mut Reader<R>,
-    width: usize,
-) -> Result<Option<RowList>, BoardFault>
-    requires reading { IsReading R.remaining reader.old }
-    requires few { length (records_ahead R.remaining reader.old) < 2 ^ 63 }
-    ensures { (result ≡ Err BoardFault.OutOfMemory)
-        ⊎ (result ≡ rows_or_uneven width (records_ahead R.remaining reader.old)) }
-{
-    let mut record = ByteRecord::new(alloc);
-    let mut rows = Some(RowList::new(alloc));
-    let mut number: u64 = 0;
-    while read_next(reader, &mut record)? {
-        number += 1;
-        if record.len() != width {
-            return Err(BoardFault::UnevenRecord { number });
-        }
-        rows = with_record(alloc, rows, &record)?;
-    }
-    Ok(rows)
-}
-
-/// The board of a file, or the first cause for which there is none.
-pub fn read_board(alloc: Global, bytes: &[u8]) -> Result<Board, BoardFault>
-    ensures { (result ≡ Err BoardFault.OutOfMemory) ⊎ (result ≡ board_of bytes.now) }
-{
-    let mut reader = reader_of(alloc, bytes);
-    let mut header = ByteRecord::new(alloc);
-    if !read_next(&mut reader, &mut header)? {
-        return Err(BoardFault::NoHeader);
-    }
-    let rows = read_rows(alloc, &mut reader, header.len())?;
-    match (schema_of(alloc, &header)?, rows) {
-        (Some(schema), Some(rows)) => Ok(Board { schema, rows }),
-        _ => Err(BoardFault::NotBuilt),
-    }
+    Ok(schema)
 }

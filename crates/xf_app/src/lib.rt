@@ -1,12 +1,11 @@
 //! The program over a depot, a sink and a counter: words, a board, a session, and what is written for them.
 //!
 //! It stands on the engine and on the outside, and reads CSV with the crate `csv`. Its private modules are the layers
-//! that a command passes: `words`, `load` and `board`, `script`, `session`, `page`, `replay`, `output`, `program`. Its one promise is the headline
+//! that a command passes: `words`, `board`, `script`, `session`, `page`, `replay`, `output`, `program`. Its one promise is the headline
 //! on `run`: what is written after each accepted line is what recomputing from the records and filters gives.
 #![tactic(auto)]
 
 mod board;
-mod load;
 mod output;
 mod page;
 mod program;

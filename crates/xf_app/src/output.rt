@@ -68,7 +68,18 @@ fn refused_line(alloc: Global, fault: BoardFault) -> Result<Vec<u8>, OutOfMemory
             line.extend_from_slice(b"uneven record ")?;
             put_number(&mut line, number)?;
         }
-        BoardFault::NotBuilt => line.extend_from_slice(b"not built")?,
+        BoardFault::TooManyRecords { more } => {
+            line.extend_from_slice(b"too many records 0 ")?;
+            put_number(&mut line, more)?;
+            line.push(b' ')?;
+            put_number(&mut line, Limits::ROWS)?;
+        }
+        BoardFault::TooManyEntries { more } => {
+            line.extend_from_slice(b"too many entries 0 ")?;
+            put_number(&mut line, more)?;
+            line.push(b' ')?;
+            put_number(&mut line, Limits::ENTRIES)?;
+        }
         BoardFault::OutOfMemory => return Err(OutOfMemory),
     }
     line.push(b'\n')?;

@@ -17,7 +17,7 @@ returns-in-Err-read_board-clause-meets g c =
     let first = c.in-Ok.ensures in
     let held = holds-fetched (g.D.Depot.account c.args.depot.now).files c.in-Some.board_name.now c.in-Ok.bytes.items first.fetched.0 first.fetched.1 in
     run-refused seen c.in-Some.board_name.now c.in-Some.session_name.now c.in-Ok.bytes.items c.read_board.result c.in-Err-read_board.fault c.tell_refused.result (sym c.in-Some.ensures) held first.faults
-    (rw c.as_slice.ensures.value at c.read_board.ensures) c.in-Err-read_board.is c.tell_refused.ensures
+    (rw c.as_slice.ensures.value at c.read_board.ensures.board) c.in-Err-read_board.is c.tell_refused.ensures
 
 pub returns-in-Err-fetch-clause-meets : goal.returns-in-Err-fetch-clause-meets
 returns-in-Err-fetch-clause-meets g c =
@@ -25,7 +25,7 @@ returns-in-Err-fetch-clause-meets g c =
     let first = c.in-Ok.ensures in
     let told = c.in-Err-fetch.ensures in
     let held = holds-fetched (g.D.Depot.account c.args.depot.now).files c.in-Some.board_name.now c.in-Ok.bytes.items first.fetched.0 first.fetched.1 in
-    let made = read-made c.in-Ok.bytes.items c.read_board.result c.in-Ok-read_board.board (rw c.as_slice.ensures.value at c.read_board.ensures) c.in-Ok-read_board.is in
+    let made = read-made c.in-Ok.bytes.items c.read_board.result c.in-Ok-read_board.board (rw c.as_slice.ensures.value at c.read_board.ensures.board) c.in-Ok-read_board.is in
     let missed = missed-second seen c.in-Some.session_name.now c.in-Err-fetch.fault (g.D.Depot.account c.fetch.new.self) first.tells first.faults first.misses_stay first.taken_stay
     (λ e. told.absent (ap (λ fault. Err fault) e)) (λ e. told.too_long (ap (λ fault. Err fault) e)) told.faults in
     run-no_session seen c.in-Some.board_name.now c.in-Some.session_name.now c.in-Ok.bytes.items c.in-Ok-read_board.board c.in-Err-fetch.fault c.tell_unfetched-in-Err-fetch.result (sym c.in-Some.ensures) held made missed c.tell_unfetched-in-Err-fetch.ensures
@@ -37,6 +37,6 @@ returns-clause-meets g c =
     let second = c.in-Ok-fetch.ensures in
     let held = holds-fetched (g.D.Depot.account c.args.depot.now).files c.in-Some.board_name.now c.in-Ok.bytes.items first.fetched.0 first.fetched.1 in
     let session_held = rw first.tells at (holds-fetched (g.D.Depot.account c.fetch.new.self).files c.in-Some.session_name.now c.in-Ok-fetch.session.items second.fetched.0 second.fetched.1) in
-    let made = read-made c.in-Ok.bytes.items c.read_board.result c.in-Ok-read_board.board (rw c.as_slice.ensures.value at c.read_board.ensures) c.in-Ok-read_board.is in
+    let made = read-made c.in-Ok.bytes.items c.read_board.result c.in-Ok-read_board.board (rw c.as_slice.ensures.value at c.read_board.ensures.board) c.in-Ok-read_board.is in
     run-played seen c.in-Some.board_name.now c.in-Some.session_name.now c.in-Ok.bytes.items c.in-Ok-fetch.session.items c.in-Ok-read_board.board c.play.result (sym c.in-Some.ensures) held session_held made
     (second.faults ∙ first.faults) (rw c.as_slice-2.ensures.value at c.play.ensures)

@@ -1,0 +1,48 @@
+-- The columns are chosen by what all records say, and the causes come in their order.
+use Rattle.std.proofs.Common.{◌≡◌, ◌∙◌, ◌<◌, ◌≤◌, ◌^◌, inr, refl, sym, ap, length, filter, arith, rules}
+use Rattle.csv.specs.Records.{fields_of}
+use Rattle.xf_load.specs.Records.{records_of}
+use Rattle.xf_load.proofs.CsvRecords.{records_of-length}
+use Rattle.xf_app.specs.Board.{columns_of, is_number_column}
+use Rattle.xf_base.specs.declared.limits.TheConstants.Limits.{DIMENSIONS, ROWS}
+use Rattle.xf_app.proofs.BoardFacts.{board_columns-entries, board_columns-even, board_columns-records, columns-are, columns-few, entries-fit, places-text}
+use Rattle.xf_app.proofs.board.board_schema.Goals as goal
+
+pub count_records-requires : goal.count_records-requires
+count_records-requires c =
+    let size : length c.args.bytes.now < 2 ^ 63 = search rules in
+    let took = rw c.if-not-branch.false at c.in_ok-read.ensures.read in
+    omega (arith, size, records_of-length c.args.bytes.now, ap length c.in_ok-reader.ensures, ap length took)
+
+pub int_schema-requires : goal.int_schema-requires
+int_schema-requires c =
+    places-text (fields_of c.read.new.fields) c.read.new.self c.as_slice.result.now
+    (c.as_slice.ensures.value ∙ c.in_ok-count.ensures.kept ∙ ap (filter (is_number_column c.read.new.self)) c.in_ok-places.ensures)
+
+pub overflow_mul-entries : goal.overflow_mul-entries
+overflow_mul-entries c =
+    let header = fields_of c.read.new.fields in
+    let records = c.read.new.self in
+    let places = c.as_slice.ensures.value ∙ c.in_ok-count.ensures.kept ∙ ap (filter (is_number_column records)) c.in_ok-places.ensures in
+    let columns = c.in_ok-schema.ensures ∙ columns-are header records c.as_slice.result.now places in
+    omega (arith, entries-fit c.in_ok-count.count c.len-2.result (omega arith) (omega (arith, ap length columns, columns-few header records)))
+
+pub returns-then-entries-gt-ENTRIES : goal.returns-then-entries-gt-ENTRIES
+returns-then-entries-gt-ENTRIES c =
+    let header = fields_of c.read.new.fields in
+    let records = c.read.new.self in
+    let places = c.as_slice.ensures.value ∙ c.in_ok-count.ensures.kept ∙ ap (filter (is_number_column records)) c.in_ok-places.ensures in
+    let columns = c.in_ok-schema.ensures ∙ columns-are header records c.as_slice.result.now places in
+    let took = sym c.in_ok-reader.ensures ∙ rw c.if-not-branch.false at c.in_ok-read.ensures.read in
+    let even = rw c.len.ensures at c.in_ok-count.ensures.even in
+    inr (sym (board_columns-entries _ header records c.in_ok-schema.schema _ took even columns (omega (arith, c.in_ok-count.ensures.count)) (rw (c.in_ok-count.ensures.count, c.len-2.ensures) refl) c.if-entries-gt-ENTRIES.true))
+
+pub returns : goal.returns
+returns c =
+    let header = fields_of c.read.new.fields in
+    let records = c.read.new.self in
+    let places = c.as_slice.ensures.value ∙ c.in_ok-count.ensures.kept ∙ ap (filter (is_number_column records)) c.in_ok-places.ensures in
+    let columns = c.in_ok-schema.ensures ∙ columns-are header records c.as_slice.result.now places in
+    let took = sym c.in_ok-reader.ensures ∙ rw c.if-not-branch.false at c.in_ok-read.ensures.read in
+    let even = rw c.len.ensures at c.in_ok-count.ensures.even in
+    inr (sym (board_columns-even _ header records c.in_ok-schema.schema took even columns (omega (arith, c.in_ok-count.ensures.count)) (rw (c.in_ok-count.ensures.count, c.len-2.ensures) at c.if-entries-gt-ENTRIES.false)))
