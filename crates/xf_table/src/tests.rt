@@ -1,10 +1,7 @@
-//! A table of texts: what it holds, in order, and how many bytes.
-ghost use Rattle.std.specs.Prelude.{◌≡◌, ◌<◌, ◌≤◌, length, IfOk};
-ghost use Rattle.std.specs.List.{AllByRecursion};
-ghost use Rattle.xf_base.specs.Schema.{IsRowOf};
-ghost use Rattle.xf_base.specs.declared.column.ColumnKind.TheVariants as ColumnKind;
+//! A table of names with numbers: what it holds, in order, how many bytes of text, and what it refuses.
+ghost use Rattle.std.specs.Prelude.{◌≡◌, ◌<◌};
 
-use crate::Table;
+use crate::{AppendRefusal, Table};
 use std::alloc::Global;
 use std::marker::Brand;
 use std::process::Abort;
@@ -12,58 +9,57 @@ use std::sync::ledger::{Blank, Ledger};
 use std::test::Fail;
 use xf_base::{Cell, Column, ColumnKind, Limits, OutOfMemory, Row, RowList, Schema, Steps, Text};
 
-fn text_column(alloc: Global) -> Result<Schema, OutOfMemory>
-    ensures one { IfOk result (λ schema. length schema ≡ 1) }
-    ensures texts { IfOk result (λ schema. AllByRecursion (λ column. column.kind ≡ ColumnKind.Text) schema) }
-{
+fn name_and_number(alloc: Global) -> Result<Schema, OutOfMemory> {
     let mut schema = Schema::new(alloc);
     schema.push(Column {
         name: Text::of(alloc, "name")?,
         kind: ColumnKind::Text,
         blank: None,
     })?;
+    schema.push(Column {
+        name: Text::of(alloc, "number")?,
+        kind: ColumnKind::Int,
+        blank: None,
+    })?;
     Ok(schema)
 }
 
-fn text_row(alloc: Global, schema: &Schema, text: &str) -> Result<Row, OutOfMemory>
-    requires one { length schema.now ≡ 1 }
-    requires texts { AllByRecursion (λ column. column.kind ≡ ColumnKind.Text) schema.now }
-    requires short { length text.now ≤ 4096 }
-    ensures { IfOk result (λ row. IsRowOf schema.now row) }
-{
-    let mut row = Row::new(alloc);
-    row.push(Cell::Text(Text::of(alloc, text)?))?;
-    Ok(row)
+fn rows_of(alloc: Global, records: &[(&str, i64)]) -> Result<RowList, OutOfMemory> {
+    let mut rows = RowList::new(alloc);
+    for (name, number) in records {
+        let mut row = Row::new(alloc);
+        row.push(Cell::Text(Text::of(alloc, name)?))?;
+        row.push(Cell::Num(*number))?;
+        rows.push(row)?;
+    }
+    Ok(rows)
 }
 
 fn see<L: Ledger>(
     rt: &impl Abort,
     alloc: Global,
     blank: Blank,
-    texts: &[&str],
+    names: &[&str],
     bytes: u64,
 ) -> Result<(), Fail>
-    requires few { length texts.now ≤ 4 }
     requires name { blank.name ≡ L.name }
     requires parts { blank.parts ≡ L.parts }
     requires some { 0 < blank.parts }
 {
     let mut steps = Steps::<L>::new(blank);
-    let mut table = Table::new(alloc, text_column(alloc)?, Limits::standard());
+    let mut table = Table::new(alloc, name_and_number(alloc)?, Limits::standard());
     assert!(rt; table.is_empty());
-    for text in texts {
-        assert!(rt; text.len() <= 4096 && table.len() < 4 && table.schema().len() == 1);
-        let mut rows = RowList::new(alloc);
-        rows.push(text_row(alloc, table.schema(), text)?)?;
-        table.append(rows)?;
+    for name in names {
+        assert_eq!(rt; table.append(rows_of(alloc, &[(name, 0)])?), Ok(()));
     }
-    assert_eq!(rt; table.len(), texts.len());
+    assert_eq!(rt; table.len(), names.len());
     assert_eq!(rt; table.text(), bytes);
-    assert_eq!(rt; table.rows(&mut steps).len(), texts.len());
-    for (place, text) in texts.iter().enumerate() {
+    assert_eq!(rt; table.schema().len(), 2);
+    assert_eq!(rt; table.rows(&mut steps).len(), names.len());
+    for (place, name) in names.iter().enumerate() {
         assert!(rt; place < table.len());
         match table.row(place, &mut steps).at(0) {
-            Some(Cell::Text(own)) => assert_eq!(rt; own.as_str(), *text),
+            Some(Cell::Text(own)) => assert_eq!(rt; own.as_str(), *name),
             _ => assert!(rt; false, "no text at {place}"),
         }
     }
@@ -73,4 +69,60 @@ fn see<L: Ledger>(
 #[test]
 fn rows_in_order(rt: HostRuntime) -> Result<(), Fail> {
     see::<Brand>(&rt, rt.alloc(), Blank::new(1), &["b", "", "ü", "b"], 4)
+}
+
+/// Of two causes that hold, the first is told; what fills both limits is taken.
+#[test]
+fn refusals(rt: HostRuntime) -> Result<(), Fail> {
+    const TOO_GREAT: i64 = 1_000_000_000_000_001;
+    let alloc = rt.alloc();
+    let limits = Limits {
+        rows: 4,
+        text_bytes: 5,
+        ..Limits::standard()
+    };
+    let mut table = Table::new(alloc, name_and_number(alloc)?, limits);
+    assert_eq!(rt; table.limits().rows, 4);
+    assert_eq!(rt;
+        table.append(rows_of(alloc, &[("ab", 1), ("c", 2)])?),
+        Ok(())
+    );
+    let three: [(&str, i64); 3] = [("d", 3), ("ef", 4), ("", 5)];
+    let refused: [(&[(&str, i64)], AppendRefusal); 3] = [
+        (
+            &three,
+            AppendRefusal::TooManyRecords {
+                have: 2,
+                more: 3,
+                limit: 4,
+            },
+        ),
+        (
+            &[("def", TOO_GREAT)],
+            AppendRefusal::TooMuchText {
+                have: 3,
+                more: 3,
+                limit: 5,
+            },
+        ),
+        (
+            &[("d", 3), ("e", TOO_GREAT)],
+            AppendRefusal::KindMismatch {
+                place: 1,
+                column: 1,
+            },
+        ),
+    ];
+    for (records, cause) in refused {
+        assert_eq!(rt; table.append(rows_of(alloc, records)?), Err(cause));
+        assert_eq!(rt; table.len(), 2);
+        assert_eq!(rt; table.text(), 3);
+    }
+    assert_eq!(rt;
+        table.append(rows_of(alloc, &[("d", 3), ("e", 4)])?),
+        Ok(())
+    );
+    assert_eq!(rt; table.len(), 4);
+    assert_eq!(rt; table.text(), 5);
+    Ok(())
 }
