@@ -1,22 +1,34 @@
 #!/usr/bin/env python3
-"""Times the program against SQL, and compares what both write. Usage: bench/against_sql.py PROGRAM [RECORDS ..]
+"""Times the program against SQL, and compares what both write.
+
+usage: bench/against_sql.py PROGRAM [RECORDS ..]
+       bench/against_sql.py --quick PROGRAM
 
 For each number of records (10,000, 100,000 and 1,000,000 where none is given) it makes the file and the session of 20
 range filters of bench/run.py. The file is loaded into a table of SQLite in memory, and each step's view is asked for
 anew: a count of the records that pass, and for each column one GROUP BY with a sum of those that pass the other columns.
-It prints both wall times, and ends with status 1 where a byte differs. It needs Python 3.8 on Linux and nothing else.
+It prints both wall times, and ends with status 1 where a byte differs.
+
+With --quick it times nothing. It makes 300 records, negative numbers among them, and 30 filters whose ends are drawn and
+of which each fifth is reversed; it prints the first line that differs, or nothing. It needs Python 3.8 on Linux, with
+its sqlite3, and nothing else.
 """
 
 import csv
+import itertools
 import os
 import sqlite3
 import sys
 import tempfile
 import time
 
-from run import RECORDS, measure, write_board, write_session
+from run import RECORDS, Draws, measure, write_board, write_session
 
 FILTERS = 20
+# Of the quick comparison: each column's name, and half the number of values around 0 that it is drawn from.
+QUICK_COLUMNS = [("few", 2), ("some", 25), ("many", 1000)]
+QUICK_RECORDS = 300
+QUICK_FILTERS = 30
 
 
 def load(path):
@@ -73,26 +85,63 @@ def replay(board, session):
     return "".join(line + "\n" for line in lines).encode("ascii")
 
 
+def write_quick(board, session):
+    draws = Draws(QUICK_RECORDS)
+    with open(board, "w", encoding="ascii") as records:
+        records.write(",".join(name for name, _ in QUICK_COLUMNS) + "\n")
+        for _ in range(QUICK_RECORDS):
+            records.write(",".join(str(draws.draw(2 * half) - half) for _, half in QUICK_COLUMNS) + "\n")
+    with open(session, "w", encoding="ascii") as commands:
+        for number in range(QUICK_FILTERS):
+            name, half = QUICK_COLUMNS[draws.draw(len(QUICK_COLUMNS))]
+            ends = [-draws.draw(half), draws.draw(half) + 1]
+            low, high = reversed(ends) if number % 5 == 4 else ends
+            commands.write(f"filter {name} range {low} {high}\n")
+
+
+def compare(program, board, session, output):
+    """The seconds of the program and of SQL, and the first line at which what they write differs, or None."""
+    seconds, _ = measure(program, [board, session], output)
+    start = time.perf_counter()
+    wanted = replay(board, session)
+    by_sql = time.perf_counter() - start
+    with open(output, "rb") as written:
+        pairs = itertools.zip_longest(written.read().split(b"\n"), wanted.split(b"\n"))
+    return seconds, by_sql, next((it for it in enumerate(pairs, 1) if it[1][0] != it[1][1]), None)
+
+
+def compare_quick(program, board, session, output):
+    write_quick(board, session)
+    _, _, differs = compare(program, board, session, output)
+    if differs:
+        number, (own, by_sql) = differs
+        sys.exit(f"line {number}: {program} writes {own}, and SQL gives {by_sql}")
+
+
+def compare_timed(program, records, board, session, output):
+    """Prints a row of the table, and ends where the bytes are not the same."""
+    write_board(board, records)
+    write_session(session, FILTERS)
+    seconds, by_sql, differs = compare(program, board, session, output)
+    print(f"| {records:,} | {FILTERS} | {seconds:.2f} | {by_sql:.2f} | {'NO' if differs else 'yes'} |", flush=True)
+    if differs:
+        sys.exit(1)
+
+
 def main():
-    if len(sys.argv) < 2:
+    words = [it for it in sys.argv[1:] if it != "--quick"]
+    if not words:
         sys.exit(__doc__)
-    program = os.path.abspath(sys.argv[1])
-    print("| records | filters | this program (s) | SQL (s) | same bytes |")
-    print("|---:|---:|---:|---:|---|")
-    for records in [int(word) for word in sys.argv[2:]] or RECORDS:
-        with tempfile.TemporaryDirectory() as folder:
-            board, session, output = (os.path.join(folder, name) for name in ("board.csv", "session.txt", "output.txt"))
-            write_board(board, records)
-            write_session(session, FILTERS)
-            seconds, _ = measure(program, [board, session], output)
-            start = time.perf_counter()
-            wanted = replay(board, session)
-            by_sql = time.perf_counter() - start
-            with open(output, "rb") as written:
-                same = written.read() == wanted
-            print(f"| {records:,} | {FILTERS} | {seconds:.2f} | {by_sql:.2f} | {'yes' if same else 'NO'} |", flush=True)
-            if not same:
-                sys.exit(1)
+    program = os.path.abspath(words[0])
+    with tempfile.TemporaryDirectory() as folder:
+        files = [os.path.join(folder, name) for name in ("board.csv", "session.txt", "output.txt")]
+        if "--quick" in sys.argv:
+            compare_quick(program, *files)
+            return
+        print("| records | filters | this program (s) | SQL (s) | same bytes |")
+        print("|---:|---:|---:|---:|---|")
+        for records in [int(word) for word in words[1:]] or RECORDS:
+            compare_timed(program, records, *files)
 
 
 if __name__ == "__main__":

@@ -1,9 +1,13 @@
 #!/usr/bin/env python3
-"""Times the program on made CSV files. Usage: bench/run.py PROGRAM [RECORDS ..]
+"""Times the program on made CSV files.
 
-For each number of records (10,000, 100,000 and 1,000,000 where none is given) it writes a file of four columns and
-sessions of 0, 1 and 20 range filters into a temporary folder, runs PROGRAM on each three times, and prints a table:
-the shortest wall time, the greatest peak memory, and the bytes written. It needs Python 3.8 on Linux and nothing else.
+usage: bench/run.py PROGRAM [RECORDS ..]
+       bench/run.py --make FILE RECORDS numbers|mixed
+
+For each number of records (10,000, 100,000 and 1,000,000 where none is given) it writes two files into a temporary
+folder: four columns of whole numbers, and twelve columns of all kinds with the same four among them. It runs PROGRAM on
+each with sessions of 0, 1 and 20 range filters, three times, and prints a table: the shortest wall time, the greatest
+peak memory, and the bytes written. With --make it only writes one file. It needs Python 3.8 on Linux and nothing else.
 """
 
 import os
@@ -30,11 +34,43 @@ class Draws:
 
 
 def write_board(path, records):
+    """Four columns of whole numbers."""
     draws = Draws(records)
     with open(path, "w", encoding="ascii") as board:
         board.write(",".join(name for name, _ in COLUMNS) + "\n")
         for _ in range(records):
             board.write(",".join(str(draws.draw(values)) for _, values in COLUMNS) + "\n")
+
+
+def others_of(draws):
+    """Two decimals, two dates, three texts and tags."""
+    cents, grams = draws.draw(100_000), draws.draw(10**6)
+    days = [(1990 + draws.draw(30), 1 + draws.draw(12), 1 + draws.draw(28)) for _ in range(2)]
+    city, street, note = draws.draw(50), draws.draw(10_000), draws.draw(10**6)
+    tags = sorted({draws.draw(8) for _ in range(3)})
+    return [
+        f"{cents // 100}.{cents % 100:02}",
+        f"{grams // 1000}.{grams % 1000:03}",
+        *(f"{year}-{month:02}-{day:02}" for year, month, day in days),
+        f"city{city}",
+        f"{street} Long Street",
+        f'"note {note}, of a customer"',
+        ";".join(f"t{tag}" for tag in tags),
+    ]
+
+
+def write_mixed(path, records):
+    """The same four columns, and eight of other kinds after them."""
+    draws = Draws(records)
+    others = ["price", "weight", "ordered", "sent", "city", "street", "note", "tags"]
+    with open(path, "w", encoding="ascii") as board:
+        board.write(",".join([name for name, _ in COLUMNS] + others) + "\n")
+        for _ in range(records):
+            numbers = [str(draws.draw(values)) for _, values in COLUMNS]
+            board.write(",".join(numbers + others_of(draws)) + "\n")
+
+
+FAMILIES = {"numbers": write_board, "mixed": write_mixed}
 
 
 def write_session(path, filters):
@@ -60,7 +96,7 @@ def measure(program, words, output):
     return seconds, usage.ru_maxrss
 
 
-def measure_row(program, folder, records, filters):
+def measure_row(program, folder, family, records, filters):
     session = os.path.join(folder, "session.txt")
     output = os.path.join(folder, "output.txt")
     write_session(session, filters)
@@ -68,21 +104,26 @@ def measure_row(program, folder, records, filters):
     seconds = min(run[0] for run in runs)
     peak = max(run[1] for run in runs)
     written = os.path.getsize(output)
-    return f"| {records:,} | {filters} | {seconds:.3f} | {peak / 1024:.1f} | {written:,} |"
+    return f"| {family} | {records:,} | {filters} | {seconds:.3f} | {peak / 1024:.1f} | {written:,} |"
 
 
 def main():
-    if len(sys.argv) < 2:
+    words = sys.argv[1:]
+    if len(words) == 4 and words[0] == "--make" and words[3] in FAMILIES:
+        FAMILIES[words[3]](words[1], int(words[2]))
+        return
+    if not words or words[0].startswith("-"):
         sys.exit(__doc__)
-    program = os.path.abspath(sys.argv[1])
-    sizes = [int(word) for word in sys.argv[2:]] or RECORDS
-    print("| records | filters | wall time (s) | peak memory (MiB) | bytes written |")
-    print("|---:|---:|---:|---:|---:|")
-    for records in sizes:
-        with tempfile.TemporaryDirectory() as folder:
-            write_board(os.path.join(folder, "board.csv"), records)
-            for filters in FILTERS:
-                print(measure_row(program, folder, records, filters), flush=True)
+    program = os.path.abspath(words[0])
+    sizes = [int(word) for word in words[1:]] or RECORDS
+    print("| columns | records | filters | wall time (s) | peak memory (MiB) | bytes written |")
+    print("|---|---:|---:|---:|---:|---:|")
+    for family, write in FAMILIES.items():
+        for records in sizes:
+            with tempfile.TemporaryDirectory() as folder:
+                write(os.path.join(folder, "board.csv"), records)
+                for filters in FILTERS:
+                    print(measure_row(program, folder, family, records, filters), flush=True)
 
 
 if __name__ == "__main__":

@@ -1,8 +1,14 @@
 #!/usr/bin/env python3
-"""Writes commutes.csv, a made-up year of ways to work, to standard output. README.md beside it states the rule."""
+"""Writes one of the made-up files here to standard output. README.md beside it states the rules.
+
+usage: make.py commutes|orders
+"""
 
 import datetime
 import sys
+
+
+DISTRICTS = ["Harbour", "Old Town", "\"Mills, East\"", "Hillside"]
 
 
 class Draws:
@@ -42,7 +48,7 @@ def minutes_of(weekday, departure, degrees, rain, draws):
     return 24 + rush + rain // 3 + frost + draws.draw(5)
 
 
-def record_of(date, day, draws):
+def commute_of(date, day, draws):
     weekday = date.isoweekday() % 7
     degrees = degrees_of(day, draws)
     rain = rain_of(date.month, draws)
@@ -51,14 +57,44 @@ def record_of(date, day, draws):
     return date.month, weekday, departure, minutes, degrees, rain
 
 
-def main():
+def print_commutes():
     draws = Draws(2025)
     print("month,weekday,departure,minutes,degrees,rain")
     for day in range(1, 366):
         date = datetime.date(2025, 1, 1) + datetime.timedelta(days=day - 1)
-        print(",".join(str(value) for value in record_of(date, day, draws)))
-    return 0
+        print(",".join(str(value) for value in commute_of(date, day, draws)))
+
+
+def order_of(number, draws):
+    """The evening is busy, the far districts take longer, and every third order has no rating."""
+    date = datetime.date(2025, 3, 1) + datetime.timedelta(days=number // 8)
+    hour = 11 + draws.draw(6) if draws.draw(3) == 0 else 17 + draws.draw(5)
+    district = DISTRICTS[draws.draw(len(DISTRICTS))]
+    dishes = 1 + draws.draw(5)
+    cents = dishes * (650 + 50 * draws.draw(12))
+    busy = 12 if 18 <= hour <= 20 else 0
+    minutes = 15 + 8 * DISTRICTS.index(district) + busy + 2 * dishes + draws.draw(6)
+    late = minutes > 60
+    stars = (1 + draws.draw(3) if late else 3 + draws.draw(3)) if draws.draw(3) else ""
+    notes = ";".join(note for note, test in [("late", late), ("large", dishes >= 4), ("rush", busy > 0)] if test)
+    return date.isoformat(), hour, district, dishes, f"{cents // 100}.{cents % 100:02}", minutes, stars, notes
+
+
+def print_orders():
+    draws = Draws(7)
+    print("date,hour,district,dishes,price,minutes,stars,notes")
+    for number in range(400):
+        print(",".join(str(value) for value in order_of(number, draws)))
+
+
+PRINTERS = {"commutes": print_commutes, "orders": print_orders}
+
+
+def main():
+    if len(sys.argv) != 2 or sys.argv[1] not in PRINTERS:
+        sys.exit(__doc__)
+    PRINTERS[sys.argv[1]]()
 
 
 if __name__ == "__main__":
-    sys.exit(main())
+    main()

@@ -1,7 +1,7 @@
 -- The exit status of the program.
 use Rattle.std.specs.Prelude.{ℕ}
-use Rattle.xf_app.specs.declared.program.Status.{Status}
-use Rattle.xf_app.specs.declared.program.Status.TheVariants as status
+use Rattle.xf_app.specs.declared.status.Status.{Status}
+use Rattle.xf_app.specs.declared.status.Status.TheVariants as status
 
 -- the number that tells how a run ended
 abbrev pub exit_code : Status → ℕ

@@ -2,18 +2,20 @@
 //!
 //! It stands on the library `xf_app`, and only makes what that runs on: a depot over the system's files, a sink over
 //! the standard output and a counter of steps. Its one promise: it passes on the user's words, and ends with the number
-//! of the status that the run gives.
+//! of the status that the run gives. Where a run does not end well it tells a person so on standard error.
 #![tactic(auto)]
 
 ghost use Rattle.std.specs.Prelude.{◌≡◌, ◌<◌};
 ghost use Rattle.xf.specs.Exit.{exit_code};
 
+mod report;
 #[cfg(test)]
 mod tests;
 
+use report::message;
 use std::alloc::Global;
 use std::env;
-use std::io::ErrorKind;
+use std::io::{ErrorKind, IsTerminal};
 use std::marker::Brand;
 use std::process::ExitCode;
 use std::sync::ledger::{Blank, Ledger};
@@ -24,11 +26,39 @@ use xf_outside::{Depot, FileDepot, Sink, StdSink};
 fn main(rt: HostRuntime) -> ExitCode {
     let mut depot = FileDepot::new(&rt);
     let mut sink = StdSink::new(&rt);
-    let status = match words_of(&rt) {
+    let words = words_of(&rt);
+    let status = match &words {
         Ok(words) => run(rt.alloc(), words.as_slice(), &mut depot, &mut sink),
         Err(OutOfMemory) => Status::Memory,
     };
+    let board = board_of(&words);
+    let is_seen = rt.stdout().is_terminal();
+    let text = message(
+        rt.alloc(),
+        status,
+        is_seen,
+        board,
+        depot.failure(),
+        sink.failure(),
+    );
+    tell(&rt, text);
     ExitCode::from(code_of(status))
+}
+
+/// The board's name, or an empty text where there are no words.
+fn board_of(words: &Result<Vec<String>, OutOfMemory>) -> &str {
+    match words {
+        Ok(words) => words.first().map_or("", String::as_str),
+        Err(OutOfMemory) => "",
+    }
+}
+
+/// Tells a person a text. That it cannot be written changes nothing.
+fn tell(rt: &HostRuntime, text: Result<Vec<u8>, OutOfMemory>) {
+    let _ = match text {
+        Ok(text) => rt.stderr().write_all(text.as_slice()),
+        Err(OutOfMemory) => rt.stderr().write_all(b"xf: out of memory\n"),
+    };
 }
 
 /// The words behind the program's own name. Where one is not UTF-8 there are none, and so the usage line is written.

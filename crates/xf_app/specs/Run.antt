@@ -23,11 +23,11 @@ pub record Seen : Type 0 where
   pub before : Outside
   pub after : Outside
 
-abbrev pub seen_of : List (List ℕ) → DepotAccount → SinkAccount → DepotAccount → SinkAccount → Seen
-seen_of words depot sink depot_after sink_after = record {
+abbrev pub seen_of : List (List ℕ) → DepotAccount × SinkAccount → DepotAccount × SinkAccount → Seen
+seen_of words before after = record {
   words = words;
-  before = record { depot = depot; sink = sink };
-  after = record { depot = depot_after; sink = sink_after };
+  before = record { depot = before.0; sink = before.1 };
+  after = record { depot = after.0; sink = after.1 };
 }
 
 -- the words were accepted

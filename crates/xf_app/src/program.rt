@@ -26,14 +26,18 @@ pub fn run<D: Depot, S: Sink, L: Ledger>(
     steps: &mut Steps<L>,
 ) -> Status
     // Why it ended so: the cause of each status, and that no count of faults rises but for the fault that is told.
-    ensures cause { HasCause (seen_of (map string_bytes words.now) (D.account depot.old) (S.account sink.old) (D.account depot.new) (S.account sink.new)) result }
-    ensures faults { CountsFaults (seen_of (map string_bytes words.now) (D.account depot.old) (S.account sink.old) (D.account depot.new) (S.account sink.new)) result }
+    ensures cause { let seen = seen_of (map string_bytes words.now) (D.account depot.old, S.account sink.old) (D.account depot.new, S.account sink.new)
+        in HasCause seen result }
+    ensures faults { let seen = seen_of (map string_bytes words.now) (D.account depot.old, S.account sink.old) (D.account depot.new, S.account sink.new)
+        in CountsFaults seen result }
 
     // What was put: all that is due for these words and files, with the status that is due, or a first part of it.
-    ensures due { MeetsDue (seen_of (map string_bytes words.now) (D.account depot.old) (S.account sink.old) (D.account depot.new) (S.account sink.new)) result }
+    ensures due { let seen = seen_of (map string_bytes words.now) (D.account depot.old, S.account sink.old) (D.account depot.new, S.account sink.new)
+        in MeetsDue seen result }
 
     // So the bytes put are the session's text, where board and session are held and accepted and nothing failed.
-    ensures headline { Headline (seen_of (map string_bytes words.now) (D.account depot.old) (S.account sink.old) (D.account depot.new) (S.account sink.new)) result }
+    ensures headline { let seen = seen_of (map string_bytes words.now) (D.account depot.old, S.account sink.old) (D.account depot.new, S.account sink.new)
+        in Headline seen result }
 
     ensures untouched { names_of (map string_bytes words.now) ≡ None → depot.new ≡ depot.old }
 {
@@ -48,7 +52,8 @@ fn answer<D: Depot, S: Sink, L: Ledger>(
     sink: &mut S,
     steps: &mut Steps<L>,
 ) -> Status
-    ensures meets { IsRun (seen_of (map string_bytes words.now) (D.account depot.old) (S.account sink.old) (D.account depot.new) (S.account sink.new)) result }
+    ensures meets { let seen = seen_of (map string_bytes words.now) (D.account depot.old, S.account sink.old) (D.account depot.new, S.account sink.new)
+        in IsRun seen result }
     ensures untouched { names_of (map string_bytes words.now) ≡ None → depot.new ≡ depot.old }
 {
     let Some((board_name, session_name)) = names_of(words) else {

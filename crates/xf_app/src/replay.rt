@@ -16,7 +16,7 @@ use crate::status::Status;
 use std::alloc::Global;
 use std::sync::ledger::Ledger;
 use xf_base::{Limits, OutOfMemory, Steps};
-use xf_engine::Cross;
+use xf_engine::{AddRefusal, Cross};
 use xf_outside::Sink;
 
 /// Plays a session on a board from its first state.
@@ -33,7 +33,9 @@ pub fn play<S: Sink, L: Ledger>(
     let mut cross = Cross::new(alloc, schema, Limits::standard());
     match cross.add_records(rows, steps) {
         Ok(()) => replay(alloc, cross, text_of(session), sink, steps),
-        Err(OutOfMemory) => Status::Memory,
+        Err(AddRefusal::OutOfMemory) => Status::Memory,
+        // A board is within the limits.
+        Err(_) => unreachable!(),
     }
 }
 

@@ -1,5 +1,13 @@
+pub mod DayParts
+pub mod DaysOfDates
 pub mod EqualKeys
+pub mod Misfits
 pub mod NumberWords
+pub mod ReadBackDates
 pub mod ReadDates
 pub mod ReadNumbers
+pub mod Utf8Texts
+pub mod Utf8Words
+pub mod Words
+pub mod WriteDates
 pub mod WriteNumbers

@@ -52,7 +52,7 @@ day_of-date date year month day is_year is_month is_day =
     rw (is_year, is_month, is_day) (day_of-calendar year month day first_month last_month some last)
 
 -- the first day of the years 0000 to 9999
-day_count-first_day : day_count (pos 0) 1 1 ≡ 3_652_425
+pub day_count-first_day : day_count (pos 0) 1 1 ≡ 3_652_425
 day_count-first_day = day_count-early (pos 0) 9999 1 1 refl (omega arith) (omega arith) (omega arith)
 
 -- no day of these years comes before it

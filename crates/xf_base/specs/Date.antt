@@ -1,9 +1,10 @@
--- How a civil date is read.
-use Rattle.std.specs.Prelude.{ℕ, ◌==◌, nat_le, Bool, ◌&&◌, if◌then◌else◌, ℤ, pos, List, ◌++◌, length, take, drop, slice_index, Result, Ok, Err}
-use Rattle.std.specs.List.{list_all}
+-- How a civil date is read and written.
+use Rattle.std.specs.Prelude.{ℕ, ◌+◌, ◌==◌, nat_le, Bool, ◌&&◌, if◌then◌else◌, ℤ, pos, ◌-ℤ◌, int_le, unsigned_abs, List, ◌∷◌, ◌++◌, length, take, drop, slice_index, count_by, decimal, Result, Ok, Err}
+use Rattle.std.specs.List.{list_all, range_with_len}
 use Rattle.std.specs.Char.{is_ascii_digit}
 use Rattle.jiff_core.specs.Calendar.{days_in_month, days_from_civil}
-use Rattle.xf_base.specs.Fixed.{number_after, without_blanks}
+use Rattle.xf_base.specs.Fixed.{number_after, without_blanks, with_zeros, fixed_text}
+use Rattle.xf_base.specs.declared.date.TheConstants.{FIRST_DAY, LAST_DAY}
 use Rattle.xf_base.specs.declared.date.DateRefusal.{DateRefusal}
 use Rattle.xf_base.specs.declared.date.DateRefusal.TheVariants.{Form, NoSuchDay}
 
@@ -40,3 +41,28 @@ day_of_form text =
 -- what a text reads as
 abbrev pub date_of : List ℕ → Result ℤ DateRefusal
 date_of text = day_of_form (without_blanks text)
+
+-- the year of a day of the years 0000 to 9999: how many of the years from 1 on have begun by it
+unfoldable pub year_of : ℤ → ℕ
+year_of day = count_by (λ year. int_le (days_from_civil (pos year) 1 1) day) (range_with_len 1 9999)
+
+-- its month: how many of the year's twelve months have begun by it
+unfoldable pub month_of : ℤ → ℕ
+month_of day = count_by (λ month. int_le (days_from_civil (pos (year_of day)) month 1) day) (range_with_len 1 12)
+
+-- its place in the month, from 1
+abbrev pub day_of_month : ℤ → ℕ
+day_of_month day = unsigned_abs (day -ℤ days_from_civil (pos (year_of day)) (month_of day) 1) + 1
+
+-- a day as `YYYY-MM-DD`
+abbrev pub date_text : ℤ → List ℕ
+date_text day =
+    with_zeros 4 (decimal (year_of day)) ++ 45 ∷ with_zeros 2 (decimal (month_of day)) ++ 45 ∷ with_zeros 2 (decimal (day_of_month day))
+
+-- a day of the years 0000 to 9999
+abbrev pub is_day : ℤ → Bool
+is_day day = int_le FIRST_DAY day && int_le day LAST_DAY
+
+-- how a day is written: what is no day of these years as a whole number
+abbrev pub day_text : ℤ → List ℕ
+day_text day = if is_day day then date_text day else fixed_text day 0

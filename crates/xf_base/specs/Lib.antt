@@ -6,5 +6,6 @@ pub mod Cell
 pub mod Schema
 pub mod Fixed
 pub mod Date
+pub mod Form
 pub mod LimitsFields
 pub mod Word

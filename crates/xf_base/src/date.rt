@@ -1,14 +1,16 @@
 //! Civil dates, kept as days from 1970-01-01 on.
-ghost use Rattle.std.specs.Prelude.{◌≡◌, ◌<◌, ◌≤◌, ◌^◌, true, length, IfOk};
+ghost use Rattle.std.specs.Prelude.{◌≡◌, ◌<◌, ◌≤◌, ◌^◌, ◌+◌, ◌%◌, ◌/◌, ◌∷◌, ◌++◌, true, decimal, length, IfOk, OnOk, OnErr, IsUtf8};
 ghost use Rattle.std.specs.List.{list_all};
 ghost use Rattle.std.specs.Char.{is_ascii_digit};
-ghost use Rattle.xf_base.specs.Date.{is_date_form, day_of, date_of};
-ghost use Rattle.xf_base.specs.Fixed.{number_after};
+ghost use Rattle.xf_base.specs.Date.{is_date_form, day_of, date_of, day_text};
+ghost use Rattle.xf_base.specs.Fixed.{number_after, with_zeros};
 ghost use Rattle.xf_base.specs.Schema.{IsDay};
 
 use crate::blank::without_blanks;
-use crate::fixed::{all_digits, number_after_capped};
+use crate::fixed::{all_digits, number_after_capped, put_fixed};
+use crate::out_of_memory::OutOfMemory;
 use jiff::civil::Date;
+use jiff_core::civil;
 use thiserror::Error;
 
 /// Why a text is no date. The first that holds, in this order.
@@ -77,4 +79,40 @@ fn day_of(year: u16, month: u8, day: u8) -> Result<i64, DateRefusal>
         Ok(date) => Ok(i64::from(date.to_plain().to_unix_epoch_day())),
         Err(_) => Err(DateRefusal::NoSuchDay),
     }
+}
+
+/// Appends a day as `YYYY-MM-DD`. A number that is no day of the years 0000 to 9999 is written as it is.
+pub fn put_date(out: &mut Vec<u8>, day: i64) -> Result<(), OutOfMemory>
+    ensures ok { OnOk result (out.new.items ≡ out.old.items ++ day_text day) }
+    ensures err { OnErr result (out.new.items ≡ out.old.items) }
+    ensures utf8 { IsUtf8 (day_text day) }
+{
+    match civil::Date::from_unix_epoch_day(day) {
+        Ok(date) if date.year >= 0 => {
+            out.extend_from_slice(&date_text(date.year as u16, date.month, date.day))?;
+            Ok(())
+        }
+        _ => put_fixed(out, i128::from(day), 0),
+    }
+}
+
+/// A date as `YYYY-MM-DD`.
+fn date_text(year: u16, month: u8, day: u8) -> [u8; 10]
+    requires year { year < 10000 }
+    requires month { month < 100 }
+    requires day { day < 100 }
+    ensures { result ≡ with_zeros 4 (decimal year) ++ 45 ∷ with_zeros 2 (decimal month) ++ 45 ∷ with_zeros 2 (decimal day) }
+{
+    let [y1, y2] = two_digits((year / 100) as u8);
+    let [y3, y4] = two_digits((year % 100) as u8);
+    let [m1, m2] = two_digits(month);
+    let [d1, d2] = two_digits(day);
+    [y1, y2, y3, y4, b'-', m1, m2, b'-', d1, d2]
+}
+
+fn two_digits(number: u8) -> [u8; 2]
+    requires { number < 100 }
+    ensures { result ≡ with_zeros 2 (decimal number) }
+{
+    [b'0' + number / 10, b'0' + number % 10]
 }

@@ -1,5 +1,5 @@
 //! Numbers with a fixed number of decimals, kept as whole numbers of units of the last decimal.
-ghost use Rattle.std.specs.Prelude.{◌≡◌, ◌==◌, ◌+◌, ◌<◌, ◌++◌, not, ◌||◌, min, length, drop, replicate, take, vec_len, OnOk, OnErr};
+ghost use Rattle.std.specs.Prelude.{◌≡◌, ◌==◌, ◌+◌, ◌<◌, ◌++◌, not, ◌||◌, min, length, drop, replicate, take, vec_len, OnOk, OnErr, IsUtf8};
 ghost use Rattle.std.specs.List.{list_all, list_any, before_first, after_first};
 ghost use Rattle.std.specs.Char.{is_ascii_digit};
 ghost use Rattle.xf_base.specs.Fixed.{is_negative, without_sign, number_after, units_of, read_digits, number_of, with_zeros, with_point, fixed_text};
@@ -150,6 +150,7 @@ fn zeros_after_capped(front: u64, zeros: usize) -> u64
 pub fn put_fixed(out: &mut Vec<u8>, number: i128, decimals: u8) -> Result<(), OutOfMemory>
     ensures ok { OnOk result (out.new.items ≡ out.old.items ++ fixed_text number decimals) }
     ensures err { OnErr result (out.new.items ≡ out.old.items) }
+    ensures utf8 { IsUtf8 (fixed_text number decimals) }
 {
     let start = out.len();
     let appended = append_fixed(out, number, decimals);

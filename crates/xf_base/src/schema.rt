@@ -1,9 +1,11 @@
 //! The schema: the columns of a table.
-ghost use Rattle.std.specs.Prelude.{◌≡◌, ◌<◌, [], ◌∷◌, ◌++◌, length, position, IfSome, OnOk, OnErr};
+ghost use Rattle.std.specs.Prelude.{◌≡◌, ◌<◌, [], ◌∷◌, ◌++◌, ◌↔◌, length, position, IfSome, IsNone, OnOk, OnErr};
 ghost use Rattle.std.specs.Str.{bytes_eq};
 
 use crate::column::Column;
+use crate::misfit::first_misfit;
 use crate::out_of_memory::OutOfMemory;
+use crate::row::Row;
 use std::alloc::Global;
 use std::marker::Model;
 
@@ -29,7 +31,7 @@ impl Model for Schema {
 
 impl Schema {
     ghost use Rattle.std.specs.List.{AllByRecursion};
-    ghost use Rattle.xf_base.specs.Schema.{IsColumn};
+    ghost use Rattle.xf_base.specs.Schema.{IsColumn, IsRowOf, misfit_of};
 
     /// A schema without columns.
     pub fn new(alloc: Global) -> Schema
@@ -73,5 +75,15 @@ impl Schema {
         self.columns
             .iter()
             .position(|column| column.name.as_str().as_bytes() == name)
+    }
+    /// Where a row is not of the schema: the first column, from 0 on, for which it has no cell or one of another kind, or
+    /// the number of columns where it has more cells. None where it has one cell for each column, each of the column's
+    /// kind: numbers from -10^15 to 10^15, dates of the years 0000 to 9999, texts and joined tags of at most 4,096
+    /// bytes, and at most 64 tags that stand ascending and distinct. It takes no memory.
+    pub fn misfit(&self, row: &Row) -> Option<usize>
+        ensures place { result ≡ misfit_of self.now row.now }
+        ensures none { IsNone result ↔ IsRowOf self.now row.now }
+    {
+        first_misfit(self.as_slice(), row.as_slice())
     }
 }

@@ -1,5 +1,5 @@
 //! Texts as words of a line.
-ghost use Rattle.std.specs.Prelude.{◌≡◌, ◌==◌, [], ◌∷◌, ◌++◌, not, ◌||◌, length, take, flat_map, vec_len, OnOk, OnErr};
+ghost use Rattle.std.specs.Prelude.{◌≡◌, ◌==◌, [], ◌∷◌, ◌++◌, not, ◌||◌, length, take, flat_map, vec_len, OnOk, OnErr, IsUtf8};
 ghost use Rattle.std.specs.List.{list_any};
 ghost use Rattle.xf_base.specs.Word.{needs_quotes, escape_of, word_text};
 
@@ -10,6 +10,7 @@ use crate::out_of_memory::OutOfMemory;
 pub fn put_word(out: &mut Vec<u8>, text: &[u8]) -> Result<(), OutOfMemory>
     ensures ok { OnOk result (out.new.items ≡ out.old.items ++ word_text text.now) }
     ensures err { OnErr result (out.new.items ≡ out.old.items) }
+    ensures utf8 { IsUtf8 text.now → IsUtf8 (word_text text.now) }
 {
     if is_bare(text) {
         out.extend_from_slice(text)?;

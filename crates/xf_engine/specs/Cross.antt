@@ -1,5 +1,5 @@
 -- What a crossfilter over columns of numbers means: one dimension and one counting group for each column.
-use Rattle.std.specs.Prelude.{◌≡◌, ℕ, ℤ, ◌≤◌, List, [], ◌∷◌, length, map, pos, Option, Some, None, slice_get, slice_index_or}
+use Rattle.std.specs.Prelude.{◌≡◌, ℕ, ◌*◌, ℤ, ◌≤◌, List, [], ◌∷◌, length, map, pos, Option, Some, None, slice_get, slice_index_or}
 use Rattle.std.specs.List.{AllByRecursion, enumerate_from}
 use Rattle.xf_base.specs.Bounds.{Bounds}
 use Rattle.xf_base.specs.Schema.{IsRowOf}
@@ -86,8 +86,11 @@ abbrev pub moved_count : State → ℕ → Range → ℕ
 moved_count cross column new =
     moved (column_keys column) (filter_of (slice_index_or cross.ranges column None)) (filter_of (Some new)) cross.rows
 
--- what is true of every crossfilter: there are few enough columns, all of them of numbers, and the rows are theirs
-pub record IsCross (columns : List Column) (rows : List (List Cell)) : Type 0 where
+-- what is true of every crossfilter: there are few enough columns, all of them of numbers, the rows are theirs, and rows
+-- and entries are within their limits
+pub record IsCross (columns : List Column) (limits : Bounds) (rows : List (List Cell)) : Type 0 where
   pub few : length columns ≤ DIMENSIONS
   pub all_int : AllByRecursion IsInt columns
   pub of_schema : AllByRecursion (IsRowOf columns) rows
+  pub few_rows : length rows ≤ limits.rows
+  pub few_entries : length rows * length columns ≤ limits.entries

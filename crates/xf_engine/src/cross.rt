@@ -1,9 +1,10 @@
 //! The crossfilter. What is kept: the records, in the table, and the range that is set on each column's dimension.
 //! What is computed each time that it is asked for, from these alone: how many records pass, what a new range moves,
 //! and the entries of a group. So nothing that is kept can fall behind.
-ghost use Rattle.std.specs.Prelude.{◌≡◌, ◌+◌, ◌*◌, ◌<◌, ◌≤◌, [], ◌++◌, length, IfOk, OnOk, OnErr, None, Some, replicate, slice_set};
+ghost use Rattle.std.specs.Prelude.{◌≡◌, ◌⊎◌, ◌<◌, ◌≤◌, [], ◌++◌, length, IfErr, IfOk, OnOk, OnErr, None, Some, replicate, slice_set};
 ghost use Rattle.std.specs.List.{AllByRecursion};
 
+use crate::add_refusal::AddRefusal;
 use crate::group::group_rows;
 use crate::key_number::KeyNumber;
 use crate::range::Range;
@@ -32,11 +33,12 @@ impl Model for Cross {
 
     ghost view = { λ cross. record { columns = cross.table.columns; limits = cross.table.limits; rows = cross.table.rows; ranges = take (length cross.table.columns) cross.ranges } };
 
-    ghost invariant = { λ cross. IsCross cross.table.columns cross.table.rows };
+    ghost invariant = { λ cross. IsCross cross.table.columns cross.table.limits cross.table.rows };
 }
 
 impl Cross {
     ghost use Rattle.xf_base.specs.Schema.{IsRowOf};
+    ghost use Rattle.xf_engine.specs.Add.{add_refusal_of};
     ghost use Rattle.xf_engine.specs.Cross.{IsInt, entries_of, key_numbers, moved_count, passing_count, whole_count};
 
     /// A crossfilter without records, with no filter set on any dimension. It takes no memory yet.
@@ -54,20 +56,41 @@ impl Cross {
         }
     }
 
-    /// Adds records at the end. Each group's entries then have the new keys too.
+    /// Adds records at the end, or refuses all of them. Each group's entries then have the new keys too.
     pub fn add_records<L: Ledger>(
         &mut self,
         rows: RowList,
         steps: &mut Steps<L>,
-    ) -> Result<(), OutOfMemory>
-        requires fits { length self.old.rows + length rows ≤ self.old.limits.rows }
-        requires entries { (length self.old.rows + length rows) * length self.old.columns ≤ self.old.limits.entries }
-        requires of_schema { AllByRecursion (IsRowOf self.old.columns) rows }
+    ) -> Result<(), AddRefusal>
+        requires { AllByRecursion (IsRowOf self.old.columns) rows }
         ensures ok { OnOk result (self.new ≡ record self.old { rows = self.old.rows ++ rows }) }
+        ensures accepted { OnOk result (add_refusal_of self.old rows ≡ None) }
+        ensures refused { IfErr result (λ cause. (cause ≡ AddRefusal.OutOfMemory) ⊎ (add_refusal_of self.old rows ≡ Some cause)) }
         ensures err { OnErr result (self.new ≡ self.old) }
     {
+        if let Some(cause) = self.add_refusal_of(&rows) {
+            return Err(cause);
+        }
         steps.tick_by(rows.len() as u64);
-        self.table.append(rows)
+        Ok(self.table.push(rows)?)
+    }
+
+    /// Why records are not added, want of memory apart: the first cause that holds.
+    fn add_refusal_of(&self, rows: &RowList) -> Option<AddRefusal>
+        ensures { result ≡ add_refusal_of self.now rows.now }
+    {
+        let (have, more) = (self.table.len() as u64, rows.len() as u64);
+        let limit = self.table.limits().rows;
+        if more > limit - have {
+            return Some(AddRefusal::TooManyRecords { have, more, limit });
+        }
+        let columns = self.schema().len() as u64;
+        let (have, more) = (have * columns, more * columns);
+        let limit = self.table.limits().entries;
+        if more > limit - have {
+            return Some(AddRefusal::TooManyEntries { have, more, limit });
+        }
+        None
     }
 
     /// Sets the range from `low` on and below `high` on a dimension, in place of what was set. Gives how many

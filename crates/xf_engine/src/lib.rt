@@ -13,12 +13,14 @@
 //! ```
 #![tactic(auto)]
 
+mod add_refusal;
 mod cross;
 mod group;
 mod key_number;
 mod range;
 mod selection;
 
+pub use add_refusal::AddRefusal;
 pub use cross::Cross;
 pub use key_number::KeyNumber;
 pub use range::Range;

@@ -13,6 +13,11 @@ count_after before by = min (before + by) (2 ^ 64 - 1)
 abbrev pub Rose : ℕ → ℕ → ℕ → Type 0
 Rose before now by = count_after before by ≤ now
 
+-- an error is counted once, and nothing is where there was none
+abbrev pub CountsError : {X E : Type 0} → Result X E → ℕ → ℕ → Type 0
+CountsError (Ok value) before now = now ≡ before
+CountsError (Err error) before now = now ≡ count_after before 1
+
 -- a failure of a fetch is counted, and the count of faults stands still where none is answered
 abbrev pub FaultsAfterFetch : {X : Type 0} → Result X FetchFault → ℕ → ℕ → Type 0
 FaultsAfterFetch (Ok bytes) before now = now ≡ before

@@ -6,6 +6,8 @@
 //! gave, within the limit, and each failure is counted.
 #![tactic(auto)]
 
+mod counted_file;
+mod counted_output;
 mod depot;
 mod file_depot;
 mod memory_depot;
@@ -14,7 +16,7 @@ mod sink;
 mod std_sink;
 
 pub use depot::{Depot, FetchFault};
-pub use file_depot::FileDepot;
+pub use file_depot::{FetchCause, FetchFailure, FileDepot};
 pub use memory_depot::MemoryDepot;
 pub use memory_sink::MemorySink;
 pub use sink::{PutFault, Sink};

@@ -1,67 +1,71 @@
 //! A sink over the standard output.
-ghost use Rattle.std.specs.Prelude.{◌≡◌, ℕ, ◌≤◌, ◌++◌, List, None, OnOk, OnErr, IsOkUnless};
+ghost use Rattle.std.specs.Prelude.{◌≡◌, ℕ, ◌++◌, List, None, true, OnOk, OnErr, IsErrOf, IsOkUnless, IsSome};
 ghost use Rattle.std.specs.Io.KnownBytes.{Appends};
-ghost use Rattle.xf_outside.specs.Count.{count_after};
+ghost use Rattle.xf_outside.specs.Count.{CountsError};
 ghost use Rattle.xf_outside.specs.Prefix.{AppendsKnownPrefix};
 
+use crate::counted_output::CountedOutput;
 use crate::sink::{PutFault, Sink};
 use std::io;
-use std::io::Write;
+use std::io::{Printer, Write};
 use std::marker::Model;
 
 /// A sink over the standard output of a runtime. It tells nothing of what was written, and counts what failed.
 #[derive(Drop)]
-pub struct StdSink<R> {
-    rt: R,
-    faults: u64,
+pub struct StdSink<'a, R: Print> {
+    output: CountedOutput<Printer<'a, R>>,
 }
 
-impl<R> Model for StdSink<R> {
+impl<'a, R: Print> Model for StdSink<'a, R> {
     ghost use Rattle.std.specs.Prelude.{ℕ};
 
     ghost Value = { ℕ };
 
-    ghost view = { λ sink. sink.faults };
+    ghost view = { λ sink. sink.output.faults };
 }
 
-impl<R> StdSink<R> {
+impl<'a, R: Print> StdSink<'a, R> {
     /// A sink that has counted no fault yet.
-    pub fn new(rt: R) -> StdSink<R>
+    pub fn new(rt: &'a R) -> StdSink<'a, R>
         ensures { result ≡ 0 }
     {
-        StdSink { rt, faults: 0 }
+        StdSink {
+            output: CountedOutput::new(io::writer(rt)),
+        }
+    }
+
+    /// What the system said of the last put that failed. It is for a person to read, and no contract sees it.
+    pub fn failure(&self) -> Option<io::Error> {
+        self.output.failure()
     }
 }
 
-impl<R: Print> Sink for StdSink<R> {
+impl<R: Print> Sink for StdSink<'_, R> {
     ghost account = { λ faults. record { bytes = None; faults = faults } };
 
     fn put(&mut self, text: &[u8]) -> Result<(), PutFault>
-        ensures ok { OnOk result (self.new ≡ self.old) }
-        ensures err { OnErr result (self.new ≡ count_after self.old 1) }
+        ensures faults { CountsError result self.old self.new }
         ensures failed { IsOkUnless result PutFault.Failed }
     {
-        let written = write_whole(&mut io::writer(&self.rt), text);
-        if written.is_err() {
-            self.faults = self.faults.saturating_add(1);
-        }
-        written
+        write_whole(&mut self.output, text)
     }
 }
 
-/// Writes a text piece by piece until the writer has taken all of it, and flushes. A piece of which nothing is taken is
-/// a failure.
-fn write_whole<W: Write>(writer: &mut W, text: &[u8]) -> Result<(), PutFault>
-    ensures ok { OnOk result (Appends (W.contents writer.old) (W.contents writer.new) text.now) }
-    ensures partly { OnErr result (AppendsKnownPrefix (W.contents writer.old) (W.contents writer.new) text.now) }
+/// Writes a text piece by piece until the output has taken all of it, and flushes.
+fn write_whole<W: Write>(output: &mut CountedOutput<W>, text: &[u8]) -> Result<(), PutFault>
+    ensures ok { OnOk result (Appends (W.contents output.old.writer) (W.contents output.new.writer) text.now) }
+    ensures flushed { OnOk result (output.new.is_flushed ≡ true) }
+
+    // A failure ends the writing: a first part of the text was written, and one failure is counted.
+    ensures partly { OnErr result (AppendsKnownPrefix (W.contents output.old.writer) (W.contents output.new.writer) text.now) }
+    ensures faults { CountsError result output.old.faults output.new.faults }
     ensures failed { IsOkUnless result PutFault.Failed }
+    ensures caused { IsErrOf result PutFault.Failed → IsSome output.new.failure }
 {
     let mut rest = text;
     while !rest.is_empty() {
-        match writer.write(rest) {
-            Ok(0) | Err(_) => return Err(PutFault::Failed),
-            Ok(count) => rest = &rest[count..],
-        }
+        let count = output.write(rest)?;
+        rest = &rest[count..];
     }
-    writer.flush().map_err(|_| PutFault::Failed)
+    output.flush()
 }

@@ -21,8 +21,10 @@ text_of_rows rows = min (sum_by row_bytes rows) (2 ^ 64 - 1)
 abbrev pub with_rows : Contents → List (List Cell) → Contents
 with_rows table rows = record { columns = table.columns; limits = table.limits; rows = table.rows ++ rows }
 
--- what is true of every table: each row is of the columns, the rows are within the limit, and the text is counted
+-- what is true of every table: each row is of the columns, rows and text are within their limits, and the
+-- text is counted
 pub record IsTable (columns : List Column) (limits : Bounds) (rows : List (List Cell)) (text : ℕ) : Type 0 where
   pub of_schema : AllByRecursion (IsRowOf columns) rows
   pub few : length rows ≤ limits.rows
+  pub small : text ≤ limits.text_bytes
   pub counted : text ≡ text_of_rows rows

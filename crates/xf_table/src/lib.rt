@@ -5,8 +5,10 @@
 //! they hold.
 #![tactic(auto)]
 
+mod append_refusal;
 mod table;
 
+pub use append_refusal::AppendRefusal;
 pub use table::Table;
 
 #[cfg(test)]

@@ -1,7 +1,9 @@
 //! The table: what it keeps, and what it tells of it.
-ghost use Rattle.std.specs.Prelude.{◌≡◌, ◌==◌, ◌+◌, ◌<◌, ◌≤◌, [], length, OnOk, OnErr, slice_get, Some};
-ghost use Rattle.std.specs.List.{AllByRecursion};
+ghost use Rattle.std.specs.Prelude.{◌≡◌, ◌⊎◌, ◌==◌, ◌+◌, ◌<◌, [], length, IfErr, OnOk, OnErr, slice_get, Some, None};
+ghost use Rattle.std.specs.List.{enumerate_from};
+ghost use Rattle.xf_table.specs.Append.{mismatch_of, refusal_of};
 
+use crate::append_refusal::AppendRefusal;
 use std::alloc::Global;
 use std::marker::Model;
 use std::sync::ledger::Ledger;
@@ -27,7 +29,6 @@ impl Model for Table {
 }
 
 impl Table {
-    ghost use Rattle.xf_base.specs.Schema.{IsRowOf};
     ghost use Rattle.xf_table.specs.Table.{with_rows, text_of_rows};
 
     /// A table without rows, which takes no memory yet.
@@ -44,14 +45,43 @@ impl Table {
         }
     }
 
-    /// Puts rows at the end, in one move. Without memory for them they are dropped.
-    pub fn append(&mut self, rows: RowList) -> Result<(), OutOfMemory>
-        requires fits { length self.old.rows + length rows ≤ self.old.limits.rows }
-        requires of_schema { AllByRecursion (IsRowOf self.old.columns) rows }
+    /// Puts rows at the end, in one move, or refuses all of them.
+    pub fn append(&mut self, rows: RowList) -> Result<(), AppendRefusal>
+        ensures ok { OnOk result (self.new ≡ with_rows self.old rows) }
+        ensures accepted { OnOk result (refusal_of self.old rows ≡ None) }
+        ensures refused { IfErr result (λ cause. (cause ≡ AppendRefusal.OutOfMemory) ⊎ (refusal_of self.old rows ≡ Some cause)) }
+        ensures err { OnErr result (self.new ≡ self.old) }
+    {
+        match self.refusal_of(&rows) {
+            Some(cause) => Err(cause),
+            None => Ok(self.push(rows)?),
+        }
+    }
+
+    /// Why rows are not appended, want of memory apart: the first cause that holds.
+    pub fn refusal_of(&self, rows: &RowList) -> Option<AppendRefusal>
+        ensures { result ≡ refusal_of self.now rows.now }
+    {
+        let (have, more) = (self.rows.len() as u64, rows.len() as u64);
+        let limit = self.limits.rows;
+        if more > limit - have {
+            return Some(AppendRefusal::TooManyRecords { have, more, limit });
+        }
+        let (have, more) = (self.text, rows.text_bytes());
+        let limit = self.limits.text_bytes;
+        if more > limit - have {
+            return Some(AppendRefusal::TooMuchText { have, more, limit });
+        }
+        first_mismatch(&self.schema, rows.as_slice())
+    }
+
+    /// Puts rows at the end that are not refused, in one move. Without memory for them they are dropped.
+    pub fn push(&mut self, rows: RowList) -> Result<(), OutOfMemory>
+        requires { refusal_of self.old rows ≡ None }
         ensures ok { OnOk result (self.new ≡ with_rows self.old rows) }
         ensures err { OnErr result (self.new ≡ self.old) }
     {
-        let text = self.text.saturating_add(rows.text_bytes());
+        let text = self.text + rows.text_bytes();
         self.rows.append(rows)?;
         self.text = text;
         Ok(())
@@ -98,9 +128,31 @@ impl Table {
         self.text
     }
 
+    /// How much the table may hold.
+    pub fn limits(&self) -> &Limits
+        ensures { result.now ≡ self.now.limits }
+    {
+        &self.limits
+    }
+
     pub fn schema(&self) -> &Schema
         ensures { result.now ≡ self.now.columns }
     {
         &self.schema
     }
+}
+
+/// The first row that is not of the schema.
+fn first_mismatch(schema: &Schema, rows: &[Row]) -> Option<AppendRefusal>
+    ensures { result ≡ mismatch_of schema.now (enumerate_from 0 rows.now) }
+{
+    for (place, row) in rows.iter().enumerate() {
+        if let Some(column) = schema.misfit(row) {
+            return Some(AppendRefusal::KindMismatch {
+                place: place as u64,
+                column: column as u64,
+            });
+        }
+    }
+    None
 }

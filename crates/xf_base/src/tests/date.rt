@@ -1,5 +1,5 @@
 //! Dates, by values of the calendar.
-use crate::{DateRefusal, FIRST_DAY, LAST_DAY, read_date};
+use crate::{DateRefusal, FIRST_DAY, LAST_DAY, put_date, read_date};
 use std::test::Fail;
 
 #[test]
@@ -41,6 +41,30 @@ fn reads_dates(rt: HostRuntime) {
     }
     assert_eq!(rt; FIRST_DAY, -719_528);
     assert_eq!(rt; LAST_DAY, 2_932_896);
+}
+
+#[test]
+fn writes_dates(rt: HostRuntime) -> Result<(), Fail> {
+    let cases = [
+        (0, "1970-01-01"),
+        (-1, "1969-12-31"),
+        (11_336, "2001-01-14"),
+        (11_016, "2000-02-29"),
+        (11_017, "2000-03-01"),
+        (-25_509, "1900-02-28"),
+        (-25_508, "1900-03-01"),
+        (FIRST_DAY, "0000-01-01"),
+        (LAST_DAY, "9999-12-31"),
+        (FIRST_DAY - 1, "-719529"),
+        (LAST_DAY + 1, "2932897"),
+        (i64::MIN, "-9223372036854775808"),
+    ];
+    for (day, want) in cases {
+        let mut out = Vec::new(rt.alloc());
+        put_date(&mut out, day)?;
+        assert_eq!(rt; out.as_slice(), want.as_bytes(), "at {day}");
+    }
+    Ok(())
 }
 
 #[test]

@@ -6,14 +6,14 @@ use Rattle.xf_app.proofs.program.answer.Goals as goal
 
 pub returns-in-Err-clause-meets : goal.returns-in-Err-clause-meets
 returns-in-Err-clause-meets g c =
-    let seen = seen_of (map string_bytes c.args.words.now) (g.D.Depot.account c.args.depot.now) (g.S.Sink.account c.args.sink.now) (g.D.Depot.account c.fetch.new.self) (g.S.Sink.account c.tell_unfetched.new.sink) in
+    let seen = seen_of (map string_bytes c.args.words.now) (g.D.Depot.account c.args.depot.now, g.S.Sink.account c.args.sink.now) (g.D.Depot.account c.fetch.new.self, g.S.Sink.account c.tell_unfetched.new.sink) in
     let told = c.in-Err.ensures in
     let missed = missed-first seen c.in-Some.board_name.now c.in-Err.fault (λ e. told.absent (ap (λ fault. Err fault) e)) (λ e. told.too_long (ap (λ fault. Err fault) e)) told.faults in
     run-no_board seen c.in-Some.board_name.now c.in-Some.session_name.now c.in-Err.fault c.tell_unfetched.result (sym c.in-Some.ensures) missed c.tell_unfetched.ensures
 
 pub returns-in-Err-read_board-clause-meets : goal.returns-in-Err-read_board-clause-meets
 returns-in-Err-read_board-clause-meets g c =
-    let seen = seen_of (map string_bytes c.args.words.now) (g.D.Depot.account c.args.depot.now) (g.S.Sink.account c.args.sink.now) (g.D.Depot.account c.fetch.new.self) (g.S.Sink.account c.tell_refused.new.sink) in
+    let seen = seen_of (map string_bytes c.args.words.now) (g.D.Depot.account c.args.depot.now, g.S.Sink.account c.args.sink.now) (g.D.Depot.account c.fetch.new.self, g.S.Sink.account c.tell_refused.new.sink) in
     let first = c.in-Ok.ensures in
     let held = holds-fetched (g.D.Depot.account c.args.depot.now).files c.in-Some.board_name.now c.in-Ok.bytes.items first.fetched.0 first.fetched.1 in
     run-refused seen c.in-Some.board_name.now c.in-Some.session_name.now c.in-Ok.bytes.items c.read_board.result c.in-Err-read_board.fault c.tell_refused.result (sym c.in-Some.ensures) held first.faults
@@ -21,7 +21,7 @@ returns-in-Err-read_board-clause-meets g c =
 
 pub returns-in-Err-fetch-clause-meets : goal.returns-in-Err-fetch-clause-meets
 returns-in-Err-fetch-clause-meets g c =
-    let seen = seen_of (map string_bytes c.args.words.now) (g.D.Depot.account c.args.depot.now) (g.S.Sink.account c.args.sink.now) (g.D.Depot.account c.fetch-2.new.self) (g.S.Sink.account c.tell_unfetched-in-Err-fetch.new.sink) in
+    let seen = seen_of (map string_bytes c.args.words.now) (g.D.Depot.account c.args.depot.now, g.S.Sink.account c.args.sink.now) (g.D.Depot.account c.fetch-2.new.self, g.S.Sink.account c.tell_unfetched-in-Err-fetch.new.sink) in
     let first = c.in-Ok.ensures in
     let told = c.in-Err-fetch.ensures in
     let held = holds-fetched (g.D.Depot.account c.args.depot.now).files c.in-Some.board_name.now c.in-Ok.bytes.items first.fetched.0 first.fetched.1 in
@@ -32,7 +32,7 @@ returns-in-Err-fetch-clause-meets g c =
 
 pub returns-clause-meets : goal.returns-clause-meets
 returns-clause-meets g c =
-    let seen = seen_of (map string_bytes c.args.words.now) (g.D.Depot.account c.args.depot.now) (g.S.Sink.account c.args.sink.now) (g.D.Depot.account c.fetch-2.new.self) (g.S.Sink.account c.play.new.sink) in
+    let seen = seen_of (map string_bytes c.args.words.now) (g.D.Depot.account c.args.depot.now, g.S.Sink.account c.args.sink.now) (g.D.Depot.account c.fetch-2.new.self, g.S.Sink.account c.play.new.sink) in
     let first = c.in-Ok.ensures in
     let second = c.in-Ok-fetch.ensures in
     let held = holds-fetched (g.D.Depot.account c.args.depot.now).files c.in-Some.board_name.now c.in-Ok.bytes.items first.fetched.0 first.fetched.1 in

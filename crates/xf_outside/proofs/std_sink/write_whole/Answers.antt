@@ -1,11 +1,20 @@
--- What the write took is part of what was written.
-use Rattle.std.proofs.Common.{◌++◌, take, refl}
-use Rattle.xf_outside.proofs.Known.{Appends-append, text-moved}
+-- What the output took is part of what was written.
+use Rattle.std.proofs.Common.{◌≡◌, ℕ, ◌≤◌, ◌-◌, List, ◌++◌, length, take, drop, refl, sym, ap, ◌∙◌, append_assoc, length-drop, arith}
+use Rattle.std.proofs.KnownBytes.{Appends-trans}
+use Rattle.std.proofs.lemmas.List.{take_all, take-append-drop}
 use Rattle.xf_outside.proofs.std_sink.write_whole.Goals as goal
 
+-- a text of which some was written, after n bytes more
+text-moved : (text kept rest : List ℕ) (n m : ℕ) → m ≡ length rest → text ≡ kept ++ rest → text ≡ (kept ++ take n rest) ++ take (m - n) (drop n rest)
+text-moved text kept rest n m e is =
+    let short : length (drop n rest) ≤ m - n = omega (arith, length-drop n rest) in
+    is ∙ ap (λ l. kept ++ l) (sym (take-append-drop n rest)) ∙ sym (append_assoc kept (take n rest) (drop n rest)) ∙ ap (λ l. (kept ++ take n rest) ++ l) (sym (take_all (m - n) (drop n rest) short))
+
 pub loop-rest-preserved : goal.loop-rest-preserved
-loop-rest-preserved g c = (
-  c.loop-rest.invariant.0 ++ take c.in-Ok.count c.loop-rest.rest.now,
-  text-moved _ c.loop-rest.invariant.0 c.loop-rest.rest.now c.in-Ok.count _ refl c.loop-rest.invariant.1,
-  Appends-append _ _ _ _ _ c.loop-rest.invariant.2 c.in-Ok.ensures.bytes,
-)
+loop-rest-preserved g c =
+    let written = c.loop-rest.invariant.written in
+    let count = c.in_ok-count.count in
+    record {
+      written = (written.0 ++ take count c.loop-rest.rest.now, text-moved _ written.0 c.loop-rest.rest.now count _ refl written.1, Appends-trans _ _ _ _ _ written.2 c.in_ok-count.ensures.bytes);
+      faultless = c.in_ok-count.ensures.faults ∙ c.loop-rest.invariant.faultless;
+    }

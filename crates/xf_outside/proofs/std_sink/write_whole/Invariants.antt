@@ -1,4 +1,4 @@
--- What was written so far and what is left are the text.
+-- What was written so far and what is left are the text, and nothing failed.
 use Rattle.std.proofs.Common.{◌≡◌, ℕ, List, ◌++◌, length}
 use Rattle.std.specs.Io.KnownBytes.{Appends}
 use Rattle.xf_outside.proofs.std_sink.write_whole.Given as goal
@@ -6,7 +6,10 @@ use Rattle.xf_outside.proofs.std_sink.write_whole.Given as goal
 abbrev pub invariant-loop-rest : goal.invariant-loop-rest
 invariant-loop-rest g l =
     let contents = g.W.Write.contents in
-    (kept : List ℕ) × (l.text ≡ kept ++ l.rest) × Appends (contents l.fn.writer) (contents l.writer) kept
+    record {
+      written : (kept : List ℕ) × (l.text ≡ kept ++ l.rest) × Appends (contents l.fn.output.writer) (contents l.output.writer) kept;
+      faultless : l.output.faults ≡ l.fn.output.faults;
+    }
 
 abbrev pub decreases-loop-rest : goal.decreases-loop-rest
 decreases-loop-rest g l = length l.rest

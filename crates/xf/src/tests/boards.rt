@@ -1,0 +1,200 @@
+//! Which files are boards, what is taken of them, and why the others are refused.
+use super::case::{Case, FIRST_STEP, PLAIN, SESSION, see};
+use std::test::Fail;
+
+/// A step on the columns `a` and `b`, which gives the same on each board that has the records of `BOARD`.
+const STEP: &[u8] = b"filter a range 2 3\n";
+
+const NO_RECORDS: &str = "step 1 ok moved 0
+records 0 passing 0
+whole all 0
+group a 0
+group b 0
+";
+
+const NEGATIVE: &str = "step 1 ok moved 2
+records 3 passing 1
+whole all 1
+group a 3
+  -3 1
+  -1 1
+  2 1
+group b 3
+  -1000000000000000 0
+  0 1
+  5 0
+";
+
+const ODD_NAMES: &str = "step 1 ok moved 1
+records 1 passing 0
+whole all 0
+group x,y 1
+  1 1
+group \"a b\" 1
+  2 0
+group \"say \\\"hi\\\"\" 1
+  3 0
+group \"\" 1
+  4 0
+";
+
+const NO_HEADER: &str = "board refused no header\n";
+
+const UNEVEN: &str = "board refused uneven record 2\n";
+
+const NOT_BUILT: &str = "board refused not built\n";
+
+/// The columns `1` to `32`, and a record of the same numbers.
+const WIDE: &[u8] =
+    b"1,2,3,4,5,6,7,8,9,10,11,12,13,14,15,16,17,18,19,20,21,22,23,24,25,26,27,28,29,30,31,32\n\
+    1,2,3,4,5,6,7,8,9,10,11,12,13,14,15,16,17,18,19,20,21,22,23,24,25,26,27,28,29,30,31,32\n";
+
+/// One column and one number more.
+const TOO_WIDE: &[u8] =
+    b"1,2,3,4,5,6,7,8,9,10,11,12,13,14,15,16,17,18,19,20,21,22,23,24,25,26,27,28,29,30,31,32,33\n\
+    1,2,3,4,5,6,7,8,9,10,11,12,13,14,15,16,17,18,19,20,21,22,23,24,25,26,27,28,29,30,31,32,33\n";
+
+/// What a range on the last of the 32 columns gives, which leaves the record out.
+const WIDE_STEP: &str = "step 1 ok moved 1\nrecords 1 passing 0\nwhole all 0\n\
+    group 1 1\n  1 0\ngroup 2 1\n  2 0\ngroup 3 1\n  3 0\ngroup 4 1\n  4 0\ngroup 5 1\n  5 0\n\
+    group 6 1\n  6 0\ngroup 7 1\n  7 0\ngroup 8 1\n  8 0\ngroup 9 1\n  9 0\ngroup 10 1\n  10 0\n\
+    group 11 1\n  11 0\ngroup 12 1\n  12 0\ngroup 13 1\n  13 0\ngroup 14 1\n  14 0\ngroup 15 1\n  15 0\n\
+    group 16 1\n  16 0\ngroup 17 1\n  17 0\ngroup 18 1\n  18 0\ngroup 19 1\n  19 0\ngroup 20 1\n  20 0\n\
+    group 21 1\n  21 0\ngroup 22 1\n  22 0\ngroup 23 1\n  23 0\ngroup 24 1\n  24 0\ngroup 25 1\n  25 0\n\
+    group 26 1\n  26 0\ngroup 27 1\n  27 0\ngroup 28 1\n  28 0\ngroup 29 1\n  29 0\ngroup 30 1\n  30 0\n\
+    group 31 1\n  31 0\ngroup 32 1\n  32 1\n";
+
+/// A name, a board, a session on it, and what is written.
+static READ: [(&str, &[u8], &[u8], &str); 13] = [
+    (
+        "no LF after the last record",
+        b"a,b\n1,10\n2,20\n2,30",
+        STEP,
+        FIRST_STEP,
+    ),
+    (
+        "CR and LF after each record",
+        b"a,b\r\n1,10\r\n2,20\r\n2,30\r\n",
+        b"filter a range 2 3\r\n",
+        FIRST_STEP,
+    ),
+    (
+        "CR after each record",
+        b"a,b\r1,10\r2,20\r2,30\r",
+        STEP,
+        FIRST_STEP,
+    ),
+    (
+        "byte order marks",
+        b"\xEF\xBB\xBFa,b\n1,10\n2,20\n2,30\n",
+        b"\xEF\xBB\xBFfilter a range 2 3",
+        FIRST_STEP,
+    ),
+    (
+        "quotes, blanks, signs, points and empty lines",
+        b"\n\"a\",b\n\n\"1\", 10 \n+2,20.0\n\r\n2.,\"30\"\n\n",
+        STEP,
+        FIRST_STEP,
+    ),
+    (
+        "negative numbers, and a zero with a sign",
+        b"a,b\n-3,-0\n-1,5\n2,-1000000000000000\n",
+        b"filter a range -3 -1\n",
+        NEGATIVE,
+    ),
+    (
+        "names with a comma, a blank and quotes, and an empty one",
+        b"\"x,y\",\"a b\",\"say \"\"hi\"\"\",\n1,2,3,4\n",
+        b"filter x,y range 2 3\n",
+        ODD_NAMES,
+    ),
+    ("32 columns", WIDE, b"filter 32 range 0 32\n", WIDE_STEP),
+    (
+        "a header alone",
+        b"a,b\n",
+        b"filter b range 1 2\n",
+        NO_RECORDS,
+    ),
+    (
+        "a header alone without LF",
+        b"a,b",
+        b"filter b range 1 2\n",
+        NO_RECORDS,
+    ),
+    (
+        "a header alone, and a range of all numbers",
+        b"a,b\n",
+        b"filter b range -1000000000000000 1000000000000000\n",
+        NO_RECORDS,
+    ),
+    ("a header alone, and no step", b"a\n", b"#", ""),
+    ("one record, and no step", b"a\n7\n", b" ", ""),
+];
+
+/// A name, a board, and what is written.
+static REFUSED: [(&str, &[u8], &str); 18] = [
+    ("no bytes", b"", NO_HEADER),
+    ("empty lines alone", b"\xEF\xBB\xBF\r\n\n", NO_HEADER),
+    ("a record with a field less", b"a,b\n1,2\n3\n", UNEVEN),
+    ("the same after an empty line", b"a,b\n1,2\n\n3\n", UNEVEN),
+    (
+        "two uneven records",
+        b"a,b\n1,2,3\n1\n",
+        "board refused uneven record 1\n",
+    ),
+    (
+        "an uneven record after other causes",
+        b"a,a\n1,x\n1,2\n1,2,3",
+        "board refused uneven record 3\n",
+    ),
+    ("an empty field", b"a,b\n1,\n", NOT_BUILT),
+    ("a field of blanks", b"a,b\n1,  \n", NOT_BUILT),
+    ("an empty field between quotes", b"a\n\"\"\n", NOT_BUILT),
+    ("a text", b"a,b\n1,x\n", NOT_BUILT),
+    ("a text in the last record", b"a\n1\ntext\n", NOT_BUILT),
+    ("a decimal", b"a\n1.5\n", NOT_BUILT),
+    (
+        "a number above the greatest",
+        b"a\n1000000000000001\n",
+        NOT_BUILT,
+    ),
+    ("two columns of one name", b"a,b,a\n1,2,3\n", NOT_BUILT),
+    ("two columns of one name alone", b"a,b,a\n", NOT_BUILT),
+    (
+        "a quote that is not closed",
+        b"a,b\n1,\"2\n3,4\n",
+        NOT_BUILT,
+    ),
+    ("a name that is not UTF-8", b"a,\xFF\n1,2\n", NOT_BUILT),
+    ("33 columns", TOO_WIDE, NOT_BUILT),
+];
+
+#[test]
+fn reads_boards(rt: HostRuntime) -> Result<(), Fail> {
+    for (name, board, session, text) in &READ {
+        let case = Case {
+            name,
+            files: &[("b.csv", board), ("s.txt", session)],
+            status: 0,
+            text,
+            ..PLAIN
+        };
+        see(&rt, rt.alloc(), &case)?;
+    }
+    Ok(())
+}
+
+#[test]
+fn refuses_boards(rt: HostRuntime) -> Result<(), Fail> {
+    for (name, board, text) in &REFUSED {
+        let case = Case {
+            name,
+            files: &[("b.csv", board), ("s.txt", SESSION)],
+            status: 3,
+            text,
+            ..PLAIN
+        };
+        see(&rt, rt.alloc(), &case)?;
+    }
+    Ok(())
+}

@@ -1,0 +1,254 @@
+//! Files that are absent, too long or cannot be read, an output that fails, and memory that is refused.
+use super::case::{
+    ALL_STEPS, BOARD, Case, FIRST_STEP, PLAIN, SESSION, USAGE, see, words_between_bars,
+};
+use crate::{code_of, run};
+use std::alloc::Global;
+use std::test::Fail;
+use xf_outside::{Depot, FetchFault, MemorySink};
+
+/// What all lines of the session give, cut in the second line of the last data view.
+const CUT_STEPS: &str = "step 1 ok moved 1
+records 3 passing 2
+whole all 2
+group a 2
+  1 1
+  2 2
+group b 3
+  10 0
+  20 1
+  30 1
+step 2 refused 3 unknown verb
+step 3 ok moved 1
+records 3 passing 1
+who";
+
+/// A name, the words with a bar between them, and what is written.
+static ABSENT: [(&str, &str, &str); 7] = [
+    ("an absent board", "c.csv|s.txt", "absent c.csv\n"),
+    ("both files absent", "c.csv|t.txt", "absent c.csv\n"),
+    ("an absent session", "b.csv|t.txt", "absent t.txt\n"),
+    ("an empty name", "b.csv|", "absent \"\"\n"),
+    (
+        "a blank in a name",
+        "b.csv|my s.txt",
+        "absent \"my s.txt\"\n",
+    ),
+    ("a tab in a name", "b.csv|a\tb", "absent \"a\\tb\"\n"),
+    (
+        "a quote, a backslash and bytes above 127 in a name",
+        "ü\"\\.csv|",
+        "absent \"ü\\\"\\\\.csv\"\n",
+    ),
+];
+
+/// A name, the words, and the number of the fetch that fails.
+static UNREAD: [(&str, &str, u64); 3] = [
+    ("a board that cannot be read", "b.csv|s.txt", 1),
+    ("a session that cannot be read", "b.csv|s.txt", 2),
+    (
+        "a failing fetch of a file that is not there",
+        "c.csv|s.txt",
+        1,
+    ),
+];
+
+/// A name, the words, the number of the put that fails and how many bytes it keeps, and what is written.
+static UNWRITTEN: [(&str, &str, (u64, u64), &str); 7] = [
+    ("a first step that is not put", "b.csv|s.txt", (1, 0), ""),
+    (
+        "a first step that is cut in its line",
+        "b.csv|s.txt",
+        (1, 5),
+        "step ",
+    ),
+    (
+        "a second step that is not put",
+        "b.csv|s.txt",
+        (2, 0),
+        FIRST_STEP,
+    ),
+    (
+        "a third step that is cut in its view",
+        "b.csv|s.txt",
+        (3, 41),
+        CUT_STEPS,
+    ),
+    ("a usage line that is cut", "b.csv", (1, 5), "usage"),
+    (
+        "an absent line that is cut",
+        "c.csv|s.txt",
+        (1, 7),
+        "absent ",
+    ),
+    (
+        "a board's refusal that is cut",
+        "texts.csv|s.txt",
+        (1, 6),
+        "board ",
+    ),
+];
+
+/// A name, the words, the number of the fetch that fails, the number of the put that fails and how many bytes it keeps,
+/// the status, and what is written.
+static ORDER: [(&str, &str, u64, (u64, u64), u8, &str); 5] = [
+    ("words before a failing fetch", "b.csv", 1, (0, 0), 2, USAGE),
+    (
+        "a board's refusal before an absent session",
+        "empty.csv|t.txt",
+        0,
+        (0, 0),
+        3,
+        "board refused no header\n",
+    ),
+    (
+        "a board's refusal before a failing fetch",
+        "texts.csv|s.txt",
+        2,
+        (0, 0),
+        3,
+        "board refused not built\n",
+    ),
+    (
+        "a failing fetch before a failing put",
+        "b.csv|s.txt",
+        1,
+        (1, 9),
+        4,
+        "",
+    ),
+    (
+        "an end before calls that would fail",
+        "b.csv|s.txt",
+        3,
+        (4, 0),
+        1,
+        ALL_STEPS,
+    ),
+];
+
+#[test]
+fn tells_absent_files(rt: HostRuntime) -> Result<(), Fail> {
+    for (name, words, text) in &ABSENT {
+        let case = Case {
+            name,
+            words,
+            status: 7,
+            text,
+            ..PLAIN
+        };
+        see(&rt, rt.alloc(), &case)?;
+    }
+    Ok(())
+}
+
+#[test]
+fn ends_where_reading_fails(rt: HostRuntime) -> Result<(), Fail> {
+    for (name, words, failing) in &UNREAD {
+        let case = Case {
+            name,
+            words,
+            failing: *failing,
+            status: 4,
+            ..PLAIN
+        };
+        see(&rt, rt.alloc(), &case)?;
+    }
+    Ok(())
+}
+
+#[test]
+fn ends_where_writing_fails(rt: HostRuntime) -> Result<(), Fail> {
+    for (name, words, cut, text) in &UNWRITTEN {
+        let case = Case {
+            name,
+            words,
+            cut: *cut,
+            status: 5,
+            text,
+            ..PLAIN
+        };
+        see(&rt, rt.alloc(), &case)?;
+    }
+    Ok(())
+}
+
+#[test]
+fn tells_what_comes_first(rt: HostRuntime) -> Result<(), Fail> {
+    for (name, words, failing, cut, status, text) in &ORDER {
+        let case = Case {
+            name,
+            words,
+            failing: *failing,
+            cut: *cut,
+            status: *status,
+            text,
+            ..PLAIN
+        };
+        see(&rt, rt.alloc(), &case)?;
+    }
+    Ok(())
+}
+
+/// The limit and one byte more as a board and as a session, and the limit itself, as a line.
+#[test]
+fn refuses_long_files(rt: HostRuntime) -> Result<(), Fail> {
+    let long = vec![in rt.alloc(); b'1'; 134_217_729]?;
+    for (name, board, session, status, text) in [
+        (
+            "a board that is too long",
+            long.as_slice(),
+            SESSION,
+            8,
+            "too long b.csv 134217728\n",
+        ),
+        (
+            "a session that is too long",
+            BOARD,
+            long.as_slice(),
+            8,
+            "too long s.txt 134217728\n",
+        ),
+        (
+            "a session of the limit, a line",
+            BOARD,
+            &long[1..],
+            1,
+            "step 1 refused 3 unknown verb\n",
+        ),
+    ] {
+        let case = Case {
+            name,
+            files: &[("b.csv", board), ("s.txt", session)],
+            status,
+            text,
+            ..PLAIN
+        };
+        see(&rt, rt.alloc(), &case)?;
+    }
+    Ok(())
+}
+
+/// A depot for whose bytes memory is refused.
+#[derive(Drop)]
+struct FullDepot;
+
+impl Depot for FullDepot {
+    ghost use Rattle.std.specs.Prelude.{None};
+
+    ghost account = { λ _. record { files = None; faults = 0; misses = 0; taken = 0 } };
+
+    fn fetch(&mut self, _alloc: Global, _name: &str, _limit: u64) -> Result<Vec<u8>, FetchFault> {
+        Err(FetchFault::OutOfMemory)
+    }
+}
+
+#[test]
+fn ends_where_memory_is_refused(rt: HostRuntime) -> Result<(), Fail> {
+    let words = words_between_bars(rt.alloc(), "b.csv|s.txt")?;
+    let mut sink = MemorySink::new(rt.alloc(), Vec::new(rt.alloc()));
+    let status = run(rt.alloc(), words.as_slice(), &mut FullDepot, &mut sink);
+    assert_eq!(rt; code_of(status), 6);
+    assert_eq!(rt; sink.bytes().len(), 0);
+    Ok(())
+}

@@ -1,0 +1,51 @@
+//! Which words are accepted.
+use super::case::{ALL_STEPS, Case, PLAIN, USAGE, see};
+use std::test::Fail;
+
+/// A name, the words with a bar between them, the status, and what is written.
+static CASES: [(&str, &str, u8, &str); 14] = [
+    ("a board and a session", "b.csv|s.txt", 1, ALL_STEPS),
+    (
+        "a board's name that is its ending alone",
+        ".csv|s.txt",
+        1,
+        ALL_STEPS,
+    ),
+    ("no words", "", 2, USAGE),
+    ("one word", "b.csv", 2, USAGE),
+    ("three words", "b.csv|s.txt|t.txt", 2, USAGE),
+    ("two empty words", "|", 2, USAGE),
+    ("a board that begins with a dash", "-b.csv|s.txt", 2, USAGE),
+    ("a session that is a dash", "b.csv|-", 2, USAGE),
+    (
+        "a session that begins with a dash",
+        "b.csv|-s.txt",
+        2,
+        USAGE,
+    ),
+    (
+        "an option that is not built",
+        "--view|data|b.csv|s.txt",
+        2,
+        USAGE,
+    ),
+    ("the session before the board", "s.txt|b.csv", 2, USAGE),
+    ("an ending in capitals", "b.CSV|s.txt", 2, USAGE),
+    ("a blank after the ending", "b.csv |s.txt", 2, USAGE),
+    ("an ending without its point", "csv|s.txt", 2, USAGE),
+];
+
+#[test]
+fn answers_words(rt: HostRuntime) -> Result<(), Fail> {
+    for (name, words, status, text) in &CASES {
+        let case = Case {
+            name,
+            words,
+            status: *status,
+            text,
+            ..PLAIN
+        };
+        see(&rt, rt.alloc(), &case)?;
+    }
+    Ok(())
+}
