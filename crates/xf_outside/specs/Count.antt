@@ -13,6 +13,10 @@ count_after before by = min (before + by) (2 ^ 64 - 1)
 abbrev pub Rose : ℕ → ℕ → ℕ → Type 0
 Rose before now by = count_after before by ≤ now
 
+-- a count rose by so many, and by no more
+abbrev pub RoseExactly : ℕ → ℕ → ℕ → Type 0
+RoseExactly before now by = Rose before now by × (now ≤ before + by)
+
 -- an error is counted once, and nothing is where there was none
 abbrev pub CountsError : {X E : Type 0} → Result X E → ℕ → ℕ → Type 0
 CountsError (Ok value) before now = now ≡ before

@@ -2,5 +2,6 @@ pub mod Account
 pub mod Count
 pub mod Fetch
 pub mod Prefix
+pub mod Put
 pub mod Shelf
 pub mod Tape

@@ -1,5 +1,5 @@
 //! An output that counts how often it fails.
-ghost use Rattle.std.specs.Prelude.{◌≡◌, ◌<◌, ◌≤◌, length, true, false, IfOk, OnOk, IsErrOf, IsOkUnless, IsSome};
+ghost use Rattle.std.specs.Prelude.{◌≡◌, ◌<◌, ◌≤◌, length, false, IsTrue, IfOk, OnOk, OnErr, IsErrOf, IsOkUnless, IsSome};
 ghost use Rattle.std.specs.Io.KnownBytes.{Keeps, WriteAppends};
 ghost use Rattle.xf_outside.specs.Count.{CountsError, count_after};
 
@@ -7,26 +7,28 @@ use crate::sink::PutFault;
 use std::io;
 use std::io::{ErrorKind, Write};
 
-/// A writer whose failures are counted, and which knows whether all that it took was flushed. No other module can write
-/// to it or count in another way.
+/// A writer whose failures are counted, and the bytes that it takes, and which knows whether all of them were flushed.
+/// No other module can write to it past the counts.
 #[derive(Drop)]
 pub struct CountedOutput<W> {
     writer: W,
     faults: u64,
-    failure: Option<io::Error>,
+    taken: u64,
     is_flushed: bool,
+    failure: Option<io::Error>,
 }
 
 impl<W: Write> CountedOutput<W> {
-    /// An output that has counted no failure. What the writer took before may not be flushed yet.
+    /// An output that has counted nothing. What the writer took before may not be flushed yet.
     pub fn new(writer: W) -> CountedOutput<W>
-        ensures { result ≡ record { writer = writer; faults = 0; failure = None; is_flushed = false } }
+        ensures { result ≡ record { writer = writer; faults = 0; taken = 0; is_flushed = false; failure = None } }
     {
         CountedOutput {
             writer,
             faults: 0,
-            failure: None,
+            taken: 0,
             is_flushed: false,
+            failure: None,
         }
     }
 
@@ -42,6 +44,8 @@ impl<W: Write> CountedOutput<W> {
         ensures bound { IfOk result (λ count. count ≤ length text.now) }
         ensures some { IfOk result (λ count. 0 < length text.now → 0 < count) }
         ensures bytes { WriteAppends (W.contents self.old.writer) (W.contents self.new.writer) result text.now }
+        ensures taken { IfOk result (λ count. self.new.taken ≡ count_after self.old.taken count) }
+        ensures untaken { OnErr result (self.new.taken ≡ self.old.taken) }
         ensures faults { CountsError result self.old.faults self.new.faults }
         ensures failed { IsOkUnless result PutFault.Failed }
         ensures caused { IsErrOf result PutFault.Failed → IsSome self.new.failure }
@@ -52,7 +56,10 @@ impl<W: Write> CountedOutput<W> {
                 let error = io::Error::new(ErrorKind::WriteZero, "write returned 0 bytes");
                 Err(self.fail(error))
             }
-            Ok(count) => Ok(count),
+            Ok(count) => {
+                self.taken = self.taken.saturating_add(count as u64);
+                Ok(count)
+            }
             Err(error) => Err(self.fail(error)),
         }
     }
@@ -60,7 +67,8 @@ impl<W: Write> CountedOutput<W> {
     /// Flushes what was written, where that was not done since.
     pub fn flush(&mut self) -> Result<(), PutFault>
         ensures bytes { Keeps (W.contents self.old.writer) (W.contents self.new.writer) }
-        ensures flushed { OnOk result (self.new.is_flushed ≡ true) }
+        ensures flushed { OnOk result (IsTrue self.new.is_flushed) }
+        ensures taken { self.new.taken ≡ self.old.taken }
         ensures faults { CountsError result self.old.faults self.new.faults }
         ensures failed { IsOkUnless result PutFault.Failed }
         ensures caused { IsErrOf result PutFault.Failed → IsSome self.new.failure }

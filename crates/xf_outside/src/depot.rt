@@ -50,7 +50,8 @@ pub trait Depot {
         // A failure is counted, and the count of faults stands still where none is answered.
         ensures faults { FaultsAfterFetch result (account self.old).faults (account self.new).faults }
 
-        ensures fetched { IfOk result (λ bytes. (length bytes.items ≤ limit) × IfSome (account self.old).files (λ files. map.get files name.now ≡ Some bytes.items)) }
+        ensures fetched { IfOk result (λ bytes. (length bytes.items ≤ limit)
+            × IfSome (account self.old).files (λ files. map.get files name.now ≡ Some bytes.items)) }
         ensures absent { IsErrOf result FetchFault.Absent → Rose (account self.old).misses (account self.new).misses 1
             × IfSome (account self.old).files (λ files. map.get files name.now ≡ None) }
         ensures too_long { IsErrOf result FetchFault.TooLong → Rose (account self.old).taken (account self.new).taken (limit + 1)

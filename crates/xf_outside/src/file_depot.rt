@@ -2,7 +2,7 @@
 ghost use Rattle.std.specs.Prelude.{◌≡◌, ◌≢◌, ℕ, ◌+◌, ◌<◌, ◌≤◌, ◌↔◌, length, OnOk, IfOk, IfErr, IfSome, IsErrAnd, IsErrOf, IsSome};
 ghost use Rattle.std.specs.Io.KnownBytes.{Consumes, IsAtEnd};
 ghost use Rattle.std.specs.IoError.{error_kind};
-ghost use Rattle.xf_outside.specs.Count.{Rose};
+ghost use Rattle.xf_outside.specs.Count.{Rose, RoseExactly};
 ghost use Rattle.xf_outside.specs.Fetch.{CountsTaken, bytes_left, counts_after};
 
 use crate::counted_file::{CountedFile, FetchCounts};
@@ -63,7 +63,7 @@ impl<R> FileDepot<R> {
     /// A depot that has counted nothing yet. A name is a path, taken from the folder that the program runs in where it
     /// begins with no slash; one that the system cannot take, as with a NUL in it, fails.
     pub fn new(rt: R) -> FileDepot<R>
-        ensures { result ≡ record { faults = 0; misses = 0; taken = 0 } }
+        ensures { result ≡ record { faults = 0; misses = 0; taken = 0; ends = 0 } }
     {
         FileDepot {
             rt,
@@ -89,7 +89,7 @@ impl<R: Files> Depot for FileDepot<R> {
         ensures taken_stay { self.old.taken ≤ self.new.taken }
         ensures few { self.new.taken ≤ self.old.taken + limit + 1 }
 
-        ensures fetched { IfOk result (λ bytes. (length bytes.items ≤ limit) × Rose self.old.taken self.new.taken (length bytes.items)) }
+        ensures fetched { IfOk result (λ bytes. (length bytes.items ≤ limit) × RoseExactly self.old.taken self.new.taken (length bytes.items)) }
         ensures too_long { IsErrOf result FetchFault.TooLong → Rose self.old.taken self.new.taken (limit + 1) }
     {
         let mut file = CountedFile::new(fs::open(&self.rt, name), self.counts);
@@ -124,18 +124,20 @@ fn read_whole<F: Read>(
 ) -> Result<Vec<u8>, FetchFault>
     // The bytes are all that the file had left, and it is at its end.
     ensures within { IfOk result (λ bytes. length bytes.items ≤ limit) }
-    ensures whole { IfOk result (λ bytes. Consumes (bytes_left F.remaining file.old.opened) (bytes_left F.remaining file.new.opened) bytes.items) }
-    ensures end { OnOk result (IsAtEnd (bytes_left F.remaining file.new.opened)) }
+    ensures whole { IfOk result (λ bytes. Consumes (bytes_left F.remaining file.old) (bytes_left F.remaining file.new) bytes.items) }
+    ensures end { OnOk result (IsAtEnd (bytes_left F.remaining file.new)) }
 
     ensures absent { (result ≡ Err FetchFault.Absent) ↔ IsErrAnd file.old.opened (λ error. error_kind error ≡ ErrorKind.NotFound) }
-    ensures unopened { IfErr file.old.opened (λ error. error_kind error ≢ ErrorKind.NotFound → (result ≡ Err FetchFault.Failed) × (file.new.failure ≡ Some error)) }
+    ensures unopened { IfErr file.old.opened (λ error.
+        error_kind error ≢ ErrorKind.NotFound → (result ≡ Err FetchFault.Failed) × (file.new.failure ≡ Some error)) }
     ensures caused { IsErrOf result FetchFault.Failed → IsSome file.new.failure }
-    ensures too_long { IsErrOf result FetchFault.TooLong → IfSome (bytes_left F.remaining file.old.opened) (λ all. limit < length all) }
+    ensures too_long { IsErrOf result FetchFault.TooLong → IfSome (bytes_left F.remaining file.old) (λ all. limit < length all) }
 
     // Each failure is counted once, and what was read, which is one byte beyond the limit at most.
     ensures counts { file.new.counts ≡ counts_after result file.old.counts file.new.counts.taken }
-    ensures taken { CountsTaken (bytes_left F.remaining file.old.opened) (bytes_left F.remaining file.new.opened) file.old.counts.taken file.new.counts.taken (limit + 1) }
-    ensures taken_whole { IfOk result (λ bytes. Rose file.old.counts.taken file.new.counts.taken (length bytes.items)) }
+    ensures taken { CountsTaken (bytes_left F.remaining file.old) (bytes_left F.remaining file.new)
+        file.old.counts.taken file.new.counts.taken (limit + 1) }
+    ensures taken_whole { IfOk result (λ bytes. RoseExactly file.old.counts.taken file.new.counts.taken (length bytes.items)) }
     ensures taken_long { IsErrOf result FetchFault.TooLong → Rose file.old.counts.taken file.new.counts.taken (limit + 1) }
 {
     let mut piece = [0u8; PIECE];

@@ -25,14 +25,28 @@ impl Model for MemoryDepot {
 
     ghost Value = { Shelf };
 
-    ghost view = { λ depot. record { files = entries_of depot.files.items; failing = depot.failing.items; calls = depot.calls; faults = depot.faults; misses = depot.misses; taken = depot.taken } };
+    ghost view = { λ depot. record {
+      files = entries_of depot.files.items;
+      failing = depot.failing.items;
+      calls = depot.calls;
+      faults = depot.faults;
+      misses = depot.misses;
+      taken = depot.taken;
+    } };
 }
 
 impl MemoryDepot {
     /// A depot of these files. Where a name stands twice the first file counts. The fetch calls whose numbers, from 1
     /// on, are among `failing` fail.
     pub fn new(files: Vec<(Text, Vec<u8>)>, failing: Vec<u64>) -> MemoryDepot
-        ensures { result ≡ record { files = entries_of files.items; failing = failing.items; calls = 0; faults = 0; misses = 0; taken = 0 } }
+        ensures { result ≡ record {
+          files = entries_of files.items;
+          failing = failing.items;
+          calls = 0;
+          faults = 0;
+          misses = 0;
+          taken = 0;
+        } }
     {
         MemoryDepot {
             files,
@@ -56,18 +70,24 @@ impl Depot for MemoryDepot {
         ensures taken_stay { self.old.taken ≤ self.new.taken }
         ensures faults { FaultsAfterFetch result self.old.faults self.new.faults }
 
-        ensures fetched { IfOk result (λ bytes. (length bytes.items ≤ limit) × (map.get (file_map self.old.files) name.now ≡ Some bytes.items)) }
-        ensures absent { IsErrOf result FetchFault.Absent → Rose self.old.misses self.new.misses 1 × (map.get (file_map self.old.files) name.now ≡ None) }
+        ensures fetched { IfOk result (λ bytes. (length bytes.items ≤ limit)
+            × (map.get (file_map self.old.files) name.now ≡ Some bytes.items)) }
+        ensures absent { IsErrOf result FetchFault.Absent → Rose self.old.misses self.new.misses 1
+            × (map.get (file_map self.old.files) name.now ≡ None) }
         ensures too_long { IsErrOf result FetchFault.TooLong → Rose self.old.taken self.new.taken (limit + 1)
             × IsSomeAnd (map.get (file_map self.old.files) name.now) (λ bytes. limit < length bytes) }
 
         // The calls fail that were told to, and no others.
         ensures failing { IsErrOf result FetchFault.Failed ↔ Contains self.old.failing (count_after self.old.calls 1) }
         ensures never_fails { self.old.failing ≡ [] → self.new.faults ≡ self.old.faults }
-        ensures found { IsSomeAnd (map.get (file_map self.old.files) name.now) (λ bytes. length bytes ≤ limit) → ¬ (Contains self.old.failing (count_after self.old.calls 1)) → IsOkUnless result FetchFault.OutOfMemory }
+        ensures found { IsSomeAnd (map.get (file_map self.old.files) name.now) (λ bytes. length bytes ≤ limit)
+            → ¬ (Contains self.old.failing (count_after self.old.calls 1)) → IsOkUnless result FetchFault.OutOfMemory }
 
         // What each outcome changes.
-        ensures ok { IfOk result (λ bytes. self.new ≡ record self.old { calls = count_after self.old.calls 1; taken = count_after self.old.taken (length bytes.items) }) }
+        ensures ok { IfOk result (λ bytes. self.new ≡ record self.old {
+          calls = count_after self.old.calls 1;
+          taken = count_after self.old.taken (length bytes.items);
+        }) }
         ensures err { IfErr result (λ fault. self.new ≡ after_fault self.old limit fault) }
     {
         self.calls = self.calls.saturating_add(1);

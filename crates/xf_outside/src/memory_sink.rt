@@ -59,7 +59,12 @@ impl Sink for MemorySink {
 
         // The calls fail that were told to, and keep what they were told to.
         ensures whole { OnOk result (IsNone (cut_of self.old.failing (count_after self.old.calls 1))) }
-        ensures cut { IsErrOf result PutFault.Failed → IsSomeAnd (cut_of self.old.failing (count_after self.old.calls 1)) (λ kept. self.new ≡ record self.old { bytes = self.old.bytes ++ take kept text.now; calls = count_after self.old.calls 1; faults = count_after self.old.faults 1 }) }
+        ensures cut { IsErrOf result PutFault.Failed → IsSomeAnd (cut_of self.old.failing (count_after self.old.calls 1))
+            (λ kept. self.new ≡ record self.old {
+              bytes = self.old.bytes ++ take kept text.now;
+              calls = count_after self.old.calls 1;
+              faults = count_after self.old.faults 1;
+            }) }
         ensures never_fails { self.old.failing ≡ [] → self.new.faults ≡ self.old.faults }
 
         // What the other outcomes change.

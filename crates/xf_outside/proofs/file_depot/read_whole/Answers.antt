@@ -10,4 +10,5 @@ returns-in_err-extend_from_slice-clause-taken g c =
     let gain = take c.in_ok-count.count c.read.new.piece in
     let longer : length (before ++ gain) ≡ length before + c.in_ok-count.count =
     length-append before gain ∙ ap (λ n. length before + n) (length-take-le c.in_ok-count.count c.read.new.piece c.in_ok-count.ensures.bound.0) in
-    (before ++ gain, Consumes-trans _ _ _ _ _ c.loop-piece.invariant.whole c.in_ok-count.ensures.bytes, omega (arith, longer, c.in_ok-count.ensures.bound.1), omega (arith, longer, c.in_ok-count.ensures.taken), omega (arith, longer, c.in_ok-count.ensures.taken))
+    let taken = ap (λ counts. counts.taken) c.in_ok-count.ensures.counts in
+    (before ++ gain, Consumes-trans _ _ _ _ _ c.loop-piece.invariant.whole c.in_ok-count.ensures.bytes, omega (arith, longer, c.in_ok-count.ensures.bound.1), (omega (arith, longer, taken), omega (arith, longer, taken)))

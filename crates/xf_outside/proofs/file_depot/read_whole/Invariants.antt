@@ -2,7 +2,7 @@
 use Rattle.std.proofs.Common.{◌≡◌, ◌⊎◌, ◌+◌, ◌-◌, ◌≤◌, length}
 use Rattle.std.specs.Io.KnownBytes.{Consumes}
 use Rattle.std.specs.Prelude.{IsOk}
-use Rattle.xf_outside.specs.Count.{Rose}
+use Rattle.xf_outside.specs.Count.{RoseExactly}
 use Rattle.xf_outside.specs.Fetch.{bytes_left}
 use Rattle.xf_outside.proofs.file_depot.read_whole.Given as goal
 
@@ -11,11 +11,10 @@ invariant-loop-piece g l =
     let left = bytes_left g.F.Read.remaining in
     record {
       within : length l.bytes.items ≤ l.limit + 1;
-      whole : Consumes (left l.fn.file.opened) (left l.file.opened) l.bytes.items;
+      whole : Consumes (left l.fn.file) (left l.file) l.bytes.items;
       opened : ((length l.bytes.items ≡ 0) × (l.file ≡ l.fn.file)) ⊎ (IsOk l.fn.file.opened × IsOk l.file.opened);
       counted : l.file.counts ≡ record l.fn.file.counts { taken = l.file.counts.taken };
-      rose : Rose l.fn.file.counts.taken l.file.counts.taken (length l.bytes.items);
-      exact : l.file.counts.taken ≤ l.fn.file.counts.taken + length l.bytes.items;
+      exact : RoseExactly l.fn.file.counts.taken l.file.counts.taken (length l.bytes.items);
     }
 
 abbrev pub decreases-loop-piece : goal.decreases-loop-piece

@@ -1,5 +1,5 @@
 -- What the output took is part of what was written.
-use Rattle.std.proofs.Common.{◌≡◌, ℕ, ◌≤◌, ◌-◌, List, ◌++◌, length, take, drop, refl, sym, ap, ◌∙◌, append_assoc, length-drop, arith}
+use Rattle.std.proofs.Common.{◌≡◌, ℕ, ◌≤◌, ◌-◌, List, ◌++◌, length, take, drop, refl, sym, ap, ◌∙◌, append_assoc, length-drop, length-take, arith}
 use Rattle.std.proofs.KnownBytes.{Appends-trans}
 use Rattle.std.proofs.lemmas.List.{take_all, take-append-drop}
 use Rattle.xf_outside.proofs.std_sink.write_whole.Goals as goal
@@ -12,9 +12,14 @@ text-moved text kept rest n m e is =
 
 pub loop-rest-preserved : goal.loop-rest-preserved
 loop-rest-preserved g c =
-    let written = c.loop-rest.invariant.written in
+    let so_far = c.loop-rest.invariant in
+    let written = so_far.written in
+    let rest = c.loop-rest.rest.now in
     let count = c.in_ok-count.count in
+    let took = c.in_ok-count.ensures in
     record {
-      written = (written.0 ++ take count c.loop-rest.rest.now, text-moved _ written.0 c.loop-rest.rest.now count _ refl written.1, Appends-trans _ _ _ _ _ written.2 c.in_ok-count.ensures.bytes);
-      faultless = c.in_ok-count.ensures.faults ∙ c.loop-rest.invariant.faultless;
+      written = (written.0 ++ take count rest, text-moved _ written.0 rest count _ refl written.1, Appends-trans _ _ _ _ _ written.2 took.bytes);
+      counted = simp (length-take, length-drop) (omega (arith, took.taken, took.bound), omega (arith, took.taken, took.bound));
+      shorter = simp (length-take, length-drop) (omega (arith, took.bound));
+      faultless = took.faults ∙ so_far.faultless;
     }

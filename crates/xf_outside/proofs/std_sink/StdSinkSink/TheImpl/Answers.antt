@@ -24,5 +24,5 @@ pub put-tells : goal.put-tells
 put-tells g c = record {
   put = untold c.result;
   partly = untold-prefix c.result c.args.text.now;
-  faults = faults-after c.result c.args.self.now c.new.self.now c.ensures.faults c.ensures.failed;
+  faults = faults-after c.result c.args.self.now.faults c.new.self.now.faults c.ensures.faults c.ensures.failed;
 }
