@@ -8,7 +8,7 @@ use Rattle.xf_app.specs.BoardParts.{BoardParts}
 use Rattle.xf_app.specs.Due.{Due, absent_due, board_due, due_of, file_due, files_due, names_due, progress_due, refused_due, session_of, too_long_due, usage_due}
 use Rattle.xf_app.specs.Ends.{Ends, EndsRefused, EndsSilent, EndsUnfetched, IsRun}
 use Rattle.xf_app.specs.Put.{Puts, PutsPart}
-use Rattle.xf_app.specs.Run.{CountsFaults, HasCause, Headline, Holds, IsAccepted, IsStopped, MeetsDue, NoReadCounted, NoWriteCounted, ReadingFailed, Seen, WritingFailed}
+use Rattle.xf_app.specs.Run.{CountsFaults, HasCause, Headline, Holds, IsAccepted, IsStopped, MeetsDue, NoReadFault, NoWriteFault, ReadingFailed, RunAccount, WritingFailed}
 use Rattle.xf_app.specs.Words.{names_of}
 use Rattle.xf_app.specs.declared.board.BoardFault.{BoardFault}
 use Rattle.xf_app.specs.declared.board.BoardFault.TheVariants as fault
@@ -21,24 +21,24 @@ use Rattle.xf_outside.specs.declared.depot.FetchFault.{FetchFault}
 use Rattle.xf_outside.specs.declared.depot.FetchFault.TheVariants as fetch
 
 -- where no fault is counted, none is to be told
-counts-none : (seen : Seen) (got : Status) → NoReadCounted seen → NoWriteCounted seen → CountsFaults seen got
-counts-none seen status.Done r w = (r, w)
-counts-none seen status.DoneWithRefusals r w = (r, w)
-counts-none seen status.Usage r w = (r, w)
-counts-none seen status.BoardRefused r w = (r, w)
-counts-none seen status.ReadFault r w = w
-counts-none seen status.WriteFault r w = r
-counts-none seen status.Memory r w = (r, w)
-counts-none seen status.Absent r w = (r, w)
-counts-none seen status.TooLong r w = (r, w)
+counts-none : (run : RunAccount) (got : Status) → NoReadFault run → NoWriteFault run → CountsFaults run got
+counts-none run status.Done r w = (r, w)
+counts-none run status.DoneWithRefusals r w = (r, w)
+counts-none run status.Usage r w = (r, w)
+counts-none run status.BoardRefused r w = (r, w)
+counts-none run status.ReadFault r w = w
+counts-none run status.WriteFault r w = r
+counts-none run status.Memory r w = (r, w)
+counts-none run status.Absent r w = (r, w)
+counts-none run status.TooLong r w = (r, w)
 
 -- a run that stopped without memory has counted a fault
-stopped-counted : (seen : Seen) (got : Status) → HasCause seen got → IsStopped got → (got ≡ status.Memory → ⊥) → (ReadingFailed seen → ⊥) → (WritingFailed seen → ⊥) → ⊥
-stopped-counted seen got cause stopped memory reading writing =
+stopped-counted : (run : RunAccount) (got : Status) → HasCause run got → IsStopped got → (got ≡ status.Memory → ⊥) → (ReadingFailed run → ⊥) → (WritingFailed run → ⊥) → ⊥
+stopped-counted run got cause stopped memory reading writing =
     elim stopped [
-      | inl read ↦ let c = subst (HasCause seen) read cause in reading c.1
+      | inl read ↦ let c = subst (HasCause run) read cause in reading c.1
       | inr later ↦ elim later [
-        | inl wrote ↦ let c = subst (HasCause seen) wrote cause in writing c
+        | inl wrote ↦ let c = subst (HasCause run) wrote cause in writing c
         | inr none ↦ memory none
       ]
     ]
@@ -60,78 +60,78 @@ files_due-held files name session bytes read held made =
     file_due-held files name bytes (λ b. board_due (board_of b) (after_board files session)) held ∙ ap (λ r. board_due r (after_board files session)) made
 
 -- the headline follows from what is due
-headline-from : (seen : Seen) (got : Status) → HasCause seen got → MeetsDue seen got → Headline seen got
-headline-from seen got cause meets = λ name session_name bytes session files board names told held made session_held reading writing memory.
+headline-from : (run : RunAccount) (got : Status) → HasCause run got → MeetsDue run got → Headline run got
+headline-from run got cause meets = λ name session_name bytes session files board names told held made session_held reading writing memory.
     let session_due : Due = progress_due (session_of board session) in
-    let due : due_of seen.words seen.before.depot.files ≡ Some session_due =
+    let due : due_of run.words run.before.depot.files ≡ Some session_due =
     rw (names, told) (ap (λ (d : Due). Some d) (files_due-held files name session_name bytes (Ok board) held made
     ∙ file_due-held files session_name session (λ s. progress_due (session_of board s)) session_held)) in
     elim (rw due at meets) [
       | inl whole ↦ whole.1
-      | inr stopped ↦ absurd (stopped-counted seen got cause stopped.0 memory reading writing)
+      | inr stopped ↦ absurd (stopped-counted run got cause stopped.0 memory reading writing)
     ]
 
-meets : (seen : Seen) (got : Status) → HasCause seen got → CountsFaults seen got → MeetsDue seen got → IsRun seen got
-meets seen got cause faults due = record {
+meets : (run : RunAccount) (got : Status) → HasCause run got → CountsFaults run got → MeetsDue run got → IsRun run got
+meets run got cause faults due = record {
   cause = cause;
   faults = faults;
   due = due;
-  headline = headline-from seen got cause due;
+  headline = headline-from run got cause due;
 }
 
 -- what is due is this, where it is known
-abbrev IsDue : Seen → Due → Type 0
-IsDue seen due = IfSome (due_of seen.words seen.before.depot.files) (λ d. d ≡ due)
+abbrev IsDue : RunAccount → Due → Type 0
+IsDue run due = IfSome (due_of run.words run.before.depot.files) (λ d. d ≡ due)
 
 weaker : {X : Type 0} (o : Option X) (P R : X → Type 0) → ((x : X) → P x → R x) → IfSome o P → IfSome o R
 weaker None P R f p = tt
 weaker (Some x) P R f p = f x p
 
 -- a run that ended with what is due
-ends : (seen : Seen) (due : Due) (got : Status) → IsDue seen due → HasCause seen due.status → NoReadCounted seen → Ends due seen.before.sink seen.after.sink got → IsRun seen got
-ends seen due got is cause quiet h =
+ends : (run : RunAccount) (due : Due) (got : Status) → IsDue run due → HasCause run due.status → NoReadFault run → Ends due run.before.sink run.after.sink got → IsRun run got
+ends run due got is cause quiet h =
     elim h [
-      | inl whole ↦ meets seen got (subst (HasCause seen) (sym whole.0) cause) (counts-none seen got quiet whole.1.1)
-          (weaker (due_of seen.words seen.before.depot.files) _ _ (λ d e. inl (rw e whole.0, rw e whole.1.0)) is)
+      | inl whole ↦ meets run got (subst (HasCause run) (sym whole.0) cause) (counts-none run got quiet whole.1.1)
+          (weaker (due_of run.words run.before.depot.files) _ _ (λ d e. inl (rw e whole.0, rw e whole.1.0)) is)
       | inr stopped ↦ elim stopped [
-        | inl failed ↦ meets seen got (subst (HasCause seen) (sym failed.0) failed.2) (subst (CountsFaults seen) (sym failed.0) quiet)
-            (weaker (due_of seen.words seen.before.depot.files) _ _ (λ d e. inr (inr (inl failed.0), rw e failed.1)) is)
-        | inr memory ↦ meets seen got (subst (HasCause seen) (sym memory.0) tt) (counts-none seen got quiet memory.2)
-            (weaker (due_of seen.words seen.before.depot.files) _ _ (λ d e. inr (inr (inr memory.0), rw e memory.1)) is)
+        | inl failed ↦ meets run got (subst (HasCause run) (sym failed.0) failed.2) (subst (CountsFaults run) (sym failed.0) quiet)
+            (weaker (due_of run.words run.before.depot.files) _ _ (λ d e. inr (inr (inl failed.0), rw e failed.1)) is)
+        | inr memory ↦ meets run got (subst (HasCause run) (sym memory.0) tt) (counts-none run got quiet memory.2)
+            (weaker (due_of run.words run.before.depot.files) _ _ (λ d e. inr (inr (inr memory.0), rw e memory.1)) is)
       ]
     ]
 
 -- nothing was put: the run stopped before it put anything
-silent-due : (seen : Seen) (got : Status) → IsStopped got → seen.after.sink ≡ seen.before.sink → MeetsDue seen got
-silent-due seen got stopped same =
-    go (due_of seen.words seen.before.depot.files)
+silent-due : (run : RunAccount) (got : Status) → IsStopped got → run.after.sink ≡ run.before.sink → MeetsDue run got
+silent-due run got stopped same =
+    go (due_of run.words run.before.depot.files)
   where
-    go : (o : Option Due) → IfSome o (λ due. ((got ≡ due.status) × Puts seen.before.sink seen.after.sink due.text) ⊎ (IsStopped got × PutsPart seen.before.sink seen.after.sink due.text))
+    go : (o : Option Due) → IfSome o (λ due. ((got ≡ due.status) × Puts run.before.sink run.after.sink due.text) ⊎ (IsStopped got × PutsPart run.before.sink run.after.sink due.text))
     go None = tt
-    go (Some due) = inr (stopped, subst (λ sink. PutsPart seen.before.sink sink due.text) (sym same) (part-nothing seen.before.sink due.text))
+    go (Some due) = inr (stopped, subst (λ sink. PutsPart run.before.sink sink due.text) (sym same) (part-nothing run.before.sink due.text))
 
-silent-memory : (seen : Seen) (got : Status) → NoReadCounted seen → EndsSilent status.Memory seen.before.sink seen.after.sink got → IsRun seen got
-silent-memory seen got quiet h =
-    meets seen got (subst (HasCause seen) (sym h.0) tt) (counts-none seen got quiet (ap (λ (s : SinkAccount). s.faults) h.1)) (silent-due seen got (inr (inr h.0)) h.1)
+silent-memory : (run : RunAccount) (got : Status) → NoReadFault run → EndsSilent status.Memory run.before.sink run.after.sink got → IsRun run got
+silent-memory run got quiet h =
+    meets run got (subst (HasCause run) (sym h.0) tt) (counts-none run got quiet (ap (λ (s : SinkAccount). s.faults) h.1)) (silent-due run got (inr (inr h.0)) h.1)
 
-silent-read_fault : (seen : Seen) (got : Status) → IsAccepted seen → ReadingFailed seen → EndsSilent status.ReadFault seen.before.sink seen.after.sink got → IsRun seen got
-silent-read_fault seen got accepted failed h =
-    meets seen got (subst (HasCause seen) (sym h.0) (accepted, failed)) (subst (CountsFaults seen) (sym h.0) (ap (λ (s : SinkAccount). s.faults) h.1)) (silent-due seen got (inl h.0) h.1)
+silent-read_fault : (run : RunAccount) (got : Status) → IsAccepted run → ReadingFailed run → EndsSilent status.ReadFault run.before.sink run.after.sink got → IsRun run got
+silent-read_fault run got accepted failed h =
+    meets run got (subst (HasCause run) (sym h.0) (accepted, failed, h.1)) (subst (CountsFaults run) (sym h.0) (ap (λ (s : SinkAccount). s.faults) h.1)) (silent-due run got (inl h.0) h.1)
 
 -- the words are accepted
 accepted : (words : List (List ℕ)) (names : List ℕ × List ℕ) → names_of words ≡ Some names → IsSome (names_of words)
 accepted words names e = rw e refl
 
 -- the words are refused
-pub run-usage : (seen : Seen) (got : Status) → names_of seen.words ≡ None → NoReadCounted seen → Ends usage_due seen.before.sink seen.after.sink got → IsRun seen got
-run-usage seen got none quiet h =
-    let is : IsDue seen usage_due = rw none refl in
-    ends seen usage_due got is none quiet h
+pub run-usage : (run : RunAccount) (got : Status) → names_of run.words ≡ None → NoReadFault run → Ends usage_due run.before.sink run.after.sink got → IsRun run got
+run-usage run got none quiet h =
+    let is : IsDue run usage_due = rw none refl in
+    ends run usage_due got is none quiet h
 
 -- what the files tell of a name
-names-due : (seen : Seen) (name session : List ℕ) (due : Due) (fact : Files → Type 0) → names_of seen.words ≡ Some (name, session)
-    → IfSome seen.before.depot.files fact → ((files : Files) → fact files → files_due name session files ≡ due) → IsDue seen due
-names-due seen name session due fact names told gives = rw names (go seen.before.depot.files told)
+names-due : (run : RunAccount) (name session : List ℕ) (due : Due) (fact : Files → Type 0) → names_of run.words ≡ Some (name, session)
+    → IfSome run.before.depot.files fact → ((files : Files) → fact files → files_due name session files ≡ due) → IsDue run due
+names-due run name session due fact names told gives = rw names (go run.before.depot.files told)
   where
     go : (o : Option Files) → IfSome o fact → IfSome (names_due (Some (name, session)) o) (λ d. d ≡ due)
     go None t = tt
@@ -150,73 +150,73 @@ pub rose-later : (a b c by : ℕ) → a ≤ b → Rose b c by → Rose a c by
 rose-later a b c by first h = omega (arith, h)
 
 -- what a fetch of a name that was answered by a fault tells
-pub record IsMissed (seen : Seen) (name : List ℕ) (cause : FetchFault) : Type 0 where
-  pub absent : cause ≡ fetch.Absent → Rose seen.before.depot.misses seen.after.depot.misses 1 × IfSome seen.before.depot.files (λ files. get files name ≡ None)
-  pub too_long : cause ≡ fetch.TooLong → Rose seen.before.depot.taken seen.after.depot.taken (FILE_BYTES + 1) × IfSome seen.before.depot.files (λ files. IsSomeAnd (get files name) (λ bytes. FILE_BYTES < length bytes))
-  pub failed : cause ≡ fetch.Failed → ReadingFailed seen
-  pub quiet : (cause ≡ fetch.Failed → ⊥) → NoReadCounted seen
+pub record IsMissed (run : RunAccount) (name : List ℕ) (cause : FetchFault) : Type 0 where
+  pub absent : cause ≡ fetch.Absent → Rose run.before.depot.misses run.after.depot.misses 1 × IfSome run.before.depot.files (λ files. get files name ≡ None)
+  pub too_long : cause ≡ fetch.TooLong → Rose run.before.depot.taken run.after.depot.taken (FILE_BYTES + 1) × IfSome run.before.depot.files (λ files. IsSomeAnd (get files name) (λ bytes. FILE_BYTES < length bytes))
+  pub failed : cause ≡ fetch.Failed → ReadingFailed run
+  pub quiet : (cause ≡ fetch.Failed → ⊥) → NoReadFault run
 
 -- what the clauses of the first fetch tell
-pub missed-first : (seen : Seen) (name : List ℕ) (cause : FetchFault)
-    → (cause ≡ fetch.Absent → Rose seen.before.depot.misses seen.after.depot.misses 1 × IfSome seen.before.depot.files (λ files. get files name ≡ None))
-    → (cause ≡ fetch.TooLong → Rose seen.before.depot.taken seen.after.depot.taken (FILE_BYTES + 1) × IfSome seen.before.depot.files (λ files. IsSomeAnd (get files name) (λ bytes. FILE_BYTES < length bytes)))
-    → FaultsAfterFetch {X = Unit {0}} (Err cause) seen.before.depot.faults seen.after.depot.faults → IsMissed seen name cause
-missed-first seen name fetch.Absent absent long faults = record { absent = absent; too_long = long; failed = λ e. cc e; quiet = λ e. faults }
-missed-first seen name fetch.TooLong absent long faults = record { absent = absent; too_long = long; failed = λ e. cc e; quiet = λ e. faults }
-missed-first seen name fetch.Failed absent long faults = record { absent = absent; too_long = long; failed = λ e. faults; quiet = λ e. absurd (e refl) }
-missed-first seen name fetch.OutOfMemory absent long faults = record { absent = absent; too_long = long; failed = λ e. cc e; quiet = λ e. faults }
+pub missed-first : (run : RunAccount) (name : List ℕ) (cause : FetchFault)
+    → (cause ≡ fetch.Absent → Rose run.before.depot.misses run.after.depot.misses 1 × IfSome run.before.depot.files (λ files. get files name ≡ None))
+    → (cause ≡ fetch.TooLong → Rose run.before.depot.taken run.after.depot.taken (FILE_BYTES + 1) × IfSome run.before.depot.files (λ files. IsSomeAnd (get files name) (λ bytes. FILE_BYTES < length bytes)))
+    → FaultsAfterFetch {X = Unit {0}} (Err cause) run.before.depot.faults run.after.depot.faults → IsMissed run name cause
+missed-first run name fetch.Absent absent long faults = record { absent = absent; too_long = long; failed = λ e. cc e; quiet = λ e. faults }
+missed-first run name fetch.TooLong absent long faults = record { absent = absent; too_long = long; failed = λ e. cc e; quiet = λ e. faults }
+missed-first run name fetch.Failed absent long faults = record { absent = absent; too_long = long; failed = λ e. faults; quiet = λ e. absurd (e refl) }
+missed-first run name fetch.OutOfMemory absent long faults = record { absent = absent; too_long = long; failed = λ e. cc e; quiet = λ e. faults }
 
 -- and those of the second, where the first has counted no fault
-pub missed-second : (seen : Seen) (name : List ℕ) (cause : FetchFault) (now : DepotAccount) → now.files ≡ seen.before.depot.files → now.faults ≡ seen.before.depot.faults
-    → seen.before.depot.misses ≤ now.misses → seen.before.depot.taken ≤ now.taken
-    → (cause ≡ fetch.Absent → Rose now.misses seen.after.depot.misses 1 × IfSome now.files (λ files. get files name ≡ None))
-    → (cause ≡ fetch.TooLong → Rose now.taken seen.after.depot.taken (FILE_BYTES + 1) × IfSome now.files (λ files. IsSomeAnd (get files name) (λ bytes. FILE_BYTES < length bytes)))
-    → FaultsAfterFetch {X = Unit {0}} (Err cause) now.faults seen.after.depot.faults → IsMissed seen name cause
-missed-second seen name cause now files quiet misses taken absent long faults =
-    missed-first seen name cause
-    (λ e. let miss = absent e in (rose-later seen.before.depot.misses now.misses seen.after.depot.misses 1 misses miss.0, subst (λ o. IfSome o (λ f. get f name ≡ None)) files miss.1))
-    (λ e. let more = long e in (rose-later seen.before.depot.taken now.taken seen.after.depot.taken (FILE_BYTES + 1) taken more.0, subst (λ o. IfSome o (λ f. IsSomeAnd (get f name) (λ bytes. FILE_BYTES < length bytes))) files more.1))
-    (subst (λ n. FaultsAfterFetch {X = Unit {0}} (Err cause) n seen.after.depot.faults) quiet faults)
+pub missed-second : (run : RunAccount) (name : List ℕ) (cause : FetchFault) (now : DepotAccount) → now.files ≡ run.before.depot.files → now.faults ≡ run.before.depot.faults
+    → run.before.depot.misses ≤ now.misses → run.before.depot.taken ≤ now.taken
+    → (cause ≡ fetch.Absent → Rose now.misses run.after.depot.misses 1 × IfSome now.files (λ files. get files name ≡ None))
+    → (cause ≡ fetch.TooLong → Rose now.taken run.after.depot.taken (FILE_BYTES + 1) × IfSome now.files (λ files. IsSomeAnd (get files name) (λ bytes. FILE_BYTES < length bytes)))
+    → FaultsAfterFetch {X = Unit {0}} (Err cause) now.faults run.after.depot.faults → IsMissed run name cause
+missed-second run name cause now files quiet misses taken absent long faults =
+    missed-first run name cause
+    (λ e. let miss = absent e in (rose-later run.before.depot.misses now.misses run.after.depot.misses 1 misses miss.0, subst (λ o. IfSome o (λ f. get f name ≡ None)) files miss.1))
+    (λ e. let more = long e in (rose-later run.before.depot.taken now.taken run.after.depot.taken (FILE_BYTES + 1) taken more.0, subst (λ o. IfSome o (λ f. IsSomeAnd (get f name) (λ bytes. FILE_BYTES < length bytes))) files more.1))
+    (subst (λ n. FaultsAfterFetch {X = Unit {0}} (Err cause) n run.after.depot.faults) quiet faults)
 
 -- a file that was fetched is held
 pub holds-fetched : (told : Option Files) (name bytes : List ℕ) → length bytes ≤ FILE_BYTES → IfSome told (λ files. get files name ≡ Some bytes) → IfSome told (λ files. Holds files name bytes)
 holds-fetched told name bytes small at = weaker told _ _ (λ files e. (e, small)) at
 
 -- the board was not fetched
-pub run-no_board : (seen : Seen) (name session : List ℕ) (cause : FetchFault) (got : Status) → names_of seen.words ≡ Some (name, session)
-    → IsMissed seen name cause → EndsUnfetched cause name seen.before.sink seen.after.sink got → IsRun seen got
-run-no_board seen name session fetch.Absent got names missed h =
+pub run-no_board : (run : RunAccount) (name session : List ℕ) (cause : FetchFault) (got : Status) → names_of run.words ≡ Some (name, session)
+    → IsMissed run name cause → EndsUnfetched cause name run.before.sink run.after.sink got → IsRun run got
+run-no_board run name session fetch.Absent got names missed h =
     let miss = missed.absent refl in
-    let is = names-due seen name session (absent_due name) (λ files. get files name ≡ None) names miss.1 (λ files none. rw none refl) in
-    ends seen (absent_due name) got is (accepted seen.words (name, session) names, miss.0) (missed.quiet (λ e. cc e)) h
-run-no_board seen name session fetch.TooLong got names missed h =
+    let is = names-due run name session (absent_due name) (λ files. get files name ≡ None) names miss.1 (λ files none. rw none refl) in
+    ends run (absent_due name) got is (accepted run.words (name, session) names, miss.0) (missed.quiet (λ e. cc e)) h
+run-no_board run name session fetch.TooLong got names missed h =
     let more = missed.too_long refl in
-    let is = names-due seen name session (too_long_due name) (λ files. IsSomeAnd (get files name) (λ bytes. FILE_BYTES < length bytes)) names more.1 (λ files long. file_due-long files name (λ b. board_due (board_of b) (after_board files session)) long) in
-    ends seen (too_long_due name) got is (accepted seen.words (name, session) names, more.0) (missed.quiet (λ e. cc e)) h
-run-no_board seen name session fetch.Failed got names missed h = silent-read_fault seen got (accepted seen.words (name, session) names) (missed.failed refl) h
-run-no_board seen name session fetch.OutOfMemory got names missed h = silent-memory seen got (missed.quiet (λ e. cc e)) h
+    let is = names-due run name session (too_long_due name) (λ files. IsSomeAnd (get files name) (λ bytes. FILE_BYTES < length bytes)) names more.1 (λ files long. file_due-long files name (λ b. board_due (board_of b) (after_board files session)) long) in
+    ends run (too_long_due name) got is (accepted run.words (name, session) names, more.0) (missed.quiet (λ e. cc e)) h
+run-no_board run name session fetch.Failed got names missed h = silent-read_fault run got (accepted run.words (name, session) names) (missed.failed refl) h
+run-no_board run name session fetch.OutOfMemory got names missed h = silent-memory run got (missed.quiet (λ e. cc e)) h
 
 -- the board was refused
-pub run-refused : (seen : Seen) (name session bytes : List ℕ) (read : Result BoardParts BoardFault) (cause : BoardFault) (got : Status) → names_of seen.words ≡ Some (name, session)
-    → IfSome seen.before.depot.files (λ files. Holds files name bytes) → NoReadCounted seen → (read ≡ Err fault.OutOfMemory) ⊎ (read ≡ board_of bytes) → read ≡ Err cause
-    → EndsRefused cause seen.before.sink seen.after.sink got → IsRun seen got
-run-refused seen name session bytes read cause got names held quiet is found h = go cause found h
+pub run-refused : (run : RunAccount) (name session bytes : List ℕ) (read : Result BoardParts BoardFault) (cause : BoardFault) (got : Status) → names_of run.words ≡ Some (name, session)
+    → IfSome run.before.depot.files (λ files. Holds files name bytes) → NoReadFault run → (read ≡ Err fault.OutOfMemory) ⊎ (read ≡ board_of bytes) → read ≡ Err cause
+    → EndsRefused cause run.before.sink run.after.sink got → IsRun run got
+run-refused run name session bytes read cause got names held quiet is found h = go cause found h
   where
-    refusal : (own : BoardFault) → (own ≡ fault.OutOfMemory → ⊥) → read ≡ Err own → Ends (refused_due own) seen.before.sink seen.after.sink got → IsRun seen got
+    refusal : (own : BoardFault) → (own ≡ fault.OutOfMemory → ⊥) → read ≡ Err own → Ends (refused_due own) run.before.sink run.after.sink got → IsRun run got
     refusal own other e end =
         let made : board_of bytes ≡ Err own = elim is [
           | inl none ↦ let clash : ◌≡◌ {A = Result BoardParts BoardFault} (Err fault.OutOfMemory) (Err own) = sym none ∙ e in absurd (other (cc clash))
           | inr same ↦ sym same ∙ e
         ] in
-        let due = names-due seen name session (refused_due own) (λ files. Holds files name bytes) names held (λ files holds. files_due-held files name session bytes (Err own) holds made) in
-        ends seen (refused_due own) got due (accepted seen.words (name, session) names) quiet end
+        let due = names-due run name session (refused_due own) (λ files. Holds files name bytes) names held (λ files holds. files_due-held files name session bytes (Err own) holds made) in
+        ends run (refused_due own) got due (accepted run.words (name, session) names) quiet end
 
-    go : (own : BoardFault) → read ≡ Err own → EndsRefused own seen.before.sink seen.after.sink got → IsRun seen got
+    go : (own : BoardFault) → read ≡ Err own → EndsRefused own run.before.sink run.after.sink got → IsRun run got
     go fault.NoHeader e end = refusal fault.NoHeader (λ o. cc o) e end
     go (fault.UnevenRecord number) e end = refusal (fault.UnevenRecord number) (λ o. cc o) e end
     go (fault.TooManyRecords more) e end = refusal (fault.TooManyRecords more) (λ o. cc o) e end
     go (fault.TooManyEntries more) e end = refusal (fault.TooManyEntries more) (λ o. cc o) e end
-    go fault.OutOfMemory e end = silent-memory seen got quiet end
+    go fault.OutOfMemory e end = silent-memory run got quiet end
 
 -- a board that was read is what the definition says
 pub read-made : (bytes : List ℕ) (read : Result BoardParts BoardFault) (board : BoardParts) → (read ≡ Err fault.OutOfMemory) ⊎ (read ≡ board_of bytes) → read ≡ Ok board → board_of bytes ≡ Ok board
@@ -234,31 +234,31 @@ session-due : (name session bytes : List ℕ) (board : BoardParts) (files : File
 session-due name session bytes board files holds made = files_due-held files name session bytes (Ok board) holds made
 
 -- the session was not fetched, after a board that was accepted
-pub run-no_session : (seen : Seen) (name session bytes : List ℕ) (board : BoardParts) (cause : FetchFault) (got : Status) → names_of seen.words ≡ Some (name, session)
-    → IfSome seen.before.depot.files (λ files. Holds files name bytes) → board_of bytes ≡ Ok board → IsMissed seen session cause
-    → EndsUnfetched cause session seen.before.sink seen.after.sink got → IsRun seen got
-run-no_session seen name session bytes board fetch.Absent got names held made missed h =
+pub run-no_session : (run : RunAccount) (name session bytes : List ℕ) (board : BoardParts) (cause : FetchFault) (got : Status) → names_of run.words ≡ Some (name, session)
+    → IfSome run.before.depot.files (λ files. Holds files name bytes) → board_of bytes ≡ Ok board → IsMissed run session cause
+    → EndsUnfetched cause session run.before.sink run.after.sink got → IsRun run got
+run-no_session run name session bytes board fetch.Absent got names held made missed h =
     let miss = missed.absent refl in
-    let is = names-due seen name session (absent_due session) (λ files. Holds files name bytes × (get files session ≡ None)) names (both seen.before.depot.files _ _ held miss.1)
+    let is = names-due run name session (absent_due session) (λ files. Holds files name bytes × (get files session ≡ None)) names (both run.before.depot.files _ _ held miss.1)
     (λ files t. session-due name session bytes board files t.0 made ∙ rw t.1 refl) in
-    ends seen (absent_due session) got is (accepted seen.words (name, session) names, miss.0) (missed.quiet (λ e. cc e)) h
-run-no_session seen name session bytes board fetch.TooLong got names held made missed h =
+    ends run (absent_due session) got is (accepted run.words (name, session) names, miss.0) (missed.quiet (λ e. cc e)) h
+run-no_session run name session bytes board fetch.TooLong got names held made missed h =
     let more = missed.too_long refl in
-    let is = names-due seen name session (too_long_due session) (λ files. Holds files name bytes × IsSomeAnd (get files session) (λ b. FILE_BYTES < length b)) names (both seen.before.depot.files _ _ held more.1)
+    let is = names-due run name session (too_long_due session) (λ files. Holds files name bytes × IsSomeAnd (get files session) (λ b. FILE_BYTES < length b)) names (both run.before.depot.files _ _ held more.1)
     (λ files t. session-due name session bytes board files t.0 made ∙ file_due-long files session (λ s. progress_due (session_of board s)) t.1) in
-    ends seen (too_long_due session) got is (accepted seen.words (name, session) names, more.0) (missed.quiet (λ e. cc e)) h
-run-no_session seen name session bytes board fetch.Failed got names held made missed h = silent-read_fault seen got (accepted seen.words (name, session) names) (missed.failed refl) h
-run-no_session seen name session bytes board fetch.OutOfMemory got names held made missed h = silent-memory seen got (missed.quiet (λ e. cc e)) h
+    ends run (too_long_due session) got is (accepted run.words (name, session) names, more.0) (missed.quiet (λ e. cc e)) h
+run-no_session run name session bytes board fetch.Failed got names held made missed h = silent-read_fault run got (accepted run.words (name, session) names) (missed.failed refl) h
+run-no_session run name session bytes board fetch.OutOfMemory got names held made missed h = silent-memory run got (missed.quiet (λ e. cc e)) h
 
 -- the session was played
-pub run-played : (seen : Seen) (name session_name bytes session : List ℕ) (board : BoardParts) (got : Status) → names_of seen.words ≡ Some (name, session_name)
-    → IfSome seen.before.depot.files (λ files. Holds files name bytes) → IfSome seen.before.depot.files (λ files. Holds files session_name session) → board_of bytes ≡ Ok board
-    → NoReadCounted seen → Ends (progress_due (session_of board session)) seen.before.sink seen.after.sink got → IsRun seen got
-run-played seen name session_name bytes session board got names held session_held made quiet h =
+pub run-played : (run : RunAccount) (name session_name bytes session : List ℕ) (board : BoardParts) (got : Status) → names_of run.words ≡ Some (name, session_name)
+    → IfSome run.before.depot.files (λ files. Holds files name bytes) → IfSome run.before.depot.files (λ files. Holds files session_name session) → board_of bytes ≡ Ok board
+    → NoReadFault run → Ends (progress_due (session_of board session)) run.before.sink run.after.sink got → IsRun run got
+run-played run name session_name bytes session board got names held session_held made quiet h =
     let due : Due = progress_due (session_of board session) in
-    let is = names-due seen name session_name due (λ files. Holds files name bytes × Holds files session_name session) names (both seen.before.depot.files _ _ held session_held)
+    let is = names-due run name session_name due (λ files. Holds files name bytes × Holds files session_name session) names (both run.before.depot.files _ _ held session_held)
     (λ files t. session-due name session_name bytes board files t.0 made ∙ file_due-held files session_name session (λ s. progress_due (session_of board s)) t.1) in
-    let ok = accepted seen.words (name, session_name) names in
-    let P : Status → Type 0 = HasCause seen in
-    let cause : HasCause seen due.status = elim (Rattle.std.proofs.Common.nat_eq (session_of board session).refusals 0) as (λ b. P (cond b status.Done status.DoneWithRefusals)) [ true ↦ ok | false ↦ ok ] in
-    ends seen due got is cause quiet h
+    let ok = accepted run.words (name, session_name) names in
+    let P : Status → Type 0 = HasCause run in
+    let cause : HasCause run due.status = elim (Rattle.std.proofs.Common.nat_eq (session_of board session).refusals 0) as (λ b. P (cond b status.Done status.DoneWithRefusals)) [ true ↦ ok | false ↦ ok ] in
+    ends run due got is cause quiet h

@@ -1,13 +1,13 @@
 -- The first line of a text, and the words of a line of ASCII.
 use Rattle.std.proofs.Common.{nat_le, slice_index, length-drop, take_all, Bor, map, codes, ◌≡◌, ℕ, zero, suc, ◌+◌, ◌-◌, ◌<◌, ◌≤◌, Bool, true, false, cond, not, ◌&&◌, ◌==◌, nat_lt, List, [], ◌∷◌, length, take, drop, filter, Option, Some, None, MatchOption, refl, sym, ap, subst, ◌∙◌, arith, get_or, ◌⊎◌, inl, inr}
 use Rattle.std.specs.List.{slice_split, onto_first, position_or_len, before_first, after_first, list_all, AllByRecursion}
-use Rattle.std.specs.Str.{bytes_eq}
+use Rattle.std.specs.Str.{IsAscii, bytes_eq}
 use Rattle.std.specs.Str.Lines.{lines, lines_of_parts, strip_carriage_return}
 use Rattle.std.proofs.lemmas.List.Splits.{slice_split_none, slice_split_first, length-slice_split}
 use Rattle.std.proofs.lemmas.List.Sums.{fails_before_first}
 use Rattle.std.proofs.lemmas.List.Elements.{All-from_get_or}
 use Rattle.std.proofs.lemmas.Bool.Decides.{nat_tests}
-use Rattle.xf_app.specs.Script.{IsAsciiWord, command_of_words, is_ascii_line, is_space, words_of}
+use Rattle.xf_app.specs.Script.{command_of_words, is_readable_line, is_space, words_of}
 use Rattle.xf_app.specs.declared.script.Command.TheVariants.{Unknown}
 
 -- whether a byte is a line feed
@@ -121,19 +121,19 @@ ascii (byte ∷ word) h zero = below_128 byte (nat_lt byte 128) (not (byte == 34
 ascii (byte ∷ word) h (suc i) = ascii word (both (is_line_byte byte) (list_all is_line_byte word) h).1 i
 
 -- and of each of its words
-ascii-words : (words : List (List ℕ)) → AllPass is_line_byte words → AllByRecursion IsAsciiWord words
+ascii-words : (words : List (List ℕ)) → AllPass is_line_byte words → AllByRecursion IsAscii words
 ascii-words [] all = tt
 ascii-words (word ∷ words) all = (ascii word all.0, ascii-words words all.1)
 
 -- the words of a plain line are ASCII
-pub words_of-ascii : (line : List ℕ) → is_ascii_line line ≡ true → AllByRecursion IsAsciiWord (words_of line)
+pub words_of-ascii : (line : List ℕ) → is_readable_line line ≡ true → AllByRecursion IsAscii (words_of line)
 words_of-ascii line h =
     let bytes = (both (nat_le (length line) 65536) (list_all is_line_byte line) h).1 in
     ascii-words (words_of line) (filter-pass (λ word. not (length word == 0)) is_line_byte (slice_split is_space line) (split-pass is_space is_line_byte line bytes))
 
 -- a line is plain by its bytes where it is short enough
-pub is_ascii_line-short : (line : List ℕ) → length line ≤ 65536 → list_all (λ byte. nat_lt byte 128 && not (byte == 34)) line ≡ is_ascii_line line
-is_ascii_line-short line h =
+pub is_readable_line-short : (line : List ℕ) → length line ≤ 65536 → list_all (λ byte. nat_lt byte 128 && not (byte == 34)) line ≡ is_readable_line line
+is_readable_line-short line h =
     let short : nat_le (length line) 65536 ≡ true = grind (arith, nat_tests) in rw short
 
 -- fewer than five words are not known

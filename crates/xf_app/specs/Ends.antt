@@ -3,7 +3,7 @@ use Rattle.std.specs.Prelude.{◌≡◌, ◌⊎◌, ℕ, ◌+◌, List}
 use Rattle.xf_app.specs.Due.{Due, absent_due, refused_due, too_long_due}
 use Rattle.xf_app.specs.Page.{data_view}
 use Rattle.xf_app.specs.Put.{Puts, PutsPart}
-use Rattle.xf_app.specs.Run.{CountsFaults, HasCause, Headline, MeetsDue, Seen}
+use Rattle.xf_app.specs.Run.{CountsFaults, HasCause, Headline, MeetsDue, RunAccount}
 use Rattle.xf_app.specs.Session.{command}
 use Rattle.xf_app.specs.declared.board.BoardFault.{BoardFault}
 use Rattle.xf_app.specs.declared.board.BoardFault.TheVariants as fault
@@ -61,8 +61,8 @@ pub record LeadsTo (old : State) (before : Tally) (line : List ℕ) (new : State
   pub refusals : after.refusals ≡ before.refusals + refusal_count (command old line)
 
 -- what a whole run meets
-pub record IsRun (seen : Seen) (got : Status) : Type 0 where
-  pub cause : HasCause seen got
-  pub faults : CountsFaults seen got
-  pub due : MeetsDue seen got
-  pub headline : Headline seen got
+pub record IsRun (run : RunAccount) (got : Status) : Type 0 where
+  pub cause : HasCause run got
+  pub faults : CountsFaults run got
+  pub due : MeetsDue run got
+  pub headline : Headline run got

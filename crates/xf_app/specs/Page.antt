@@ -2,28 +2,17 @@
 use Rattle.std.specs.Prelude.{ℕ, List, [], ◌∷◌, ◌++◌, codes, decimal, flat_map, length}
 use Rattle.std.specs.List.{enumerate_from}
 use Rattle.xf_base.specs.Fixed.{fixed_text}
+use Rattle.xf_base.specs.Form.{key_text}
 use Rattle.xf_base.specs.Word.{word_text}
 use Rattle.xf_base.specs.declared.column.Column.{Column}
-use Rattle.xf_base.specs.declared.key.Atom.{Atom}
-use Rattle.xf_base.specs.declared.key.Atom.TheVariants as atom
-use Rattle.xf_base.specs.declared.key.Key.{Key}
-use Rattle.xf_base.specs.declared.key.Key.TheVariants as key
+use Rattle.xf_base.specs.declared.form.AtomForm.TheVariants.{Fixed}
+use Rattle.xf_base.specs.declared.form.KeyForm.TheVariants.{One}
 use Rattle.xf_engine.specs.Cross.{State, entries_of, key_numbers, passing_count, whole_count}
 use Rattle.xf_engine.specs.declared.key_number.KeyNumber.{KeyNumber}
 
--- a key of whole numbers as text: a number in decimal, a text as it is, a pair with a bar between its parts
-abbrev pub atom_text : Atom → List ℕ
-atom_text (atom.Num number) = fixed_text number 0
-atom_text (atom.Text text) = text
-
-abbrev pub key_text : Key → List ℕ
-key_text (key.Num number) = fixed_text number 0
-key_text (key.Text text) = text
-key_text (key.Pair first second) = atom_text first ++ 124 ∷ atom_text second
-
 -- two blanks, the key as a word, a blank, its number
 abbrev pub entry_line : KeyNumber → List ℕ
-entry_line entry = codes "  " ++ word_text (key_text entry.key) ++ 32 ∷ fixed_text entry.number 0 ++ 10 ∷ []
+entry_line entry = codes "  " ++ word_text (key_text (One (Fixed 0)) entry.key) ++ 32 ∷ fixed_text entry.number 0 ++ 10 ∷ []
 
 -- the group of a column, under its name and the number of its keys
 abbrev pub group_lines : List ℕ → List KeyNumber → List ℕ

@@ -17,69 +17,73 @@ pub record Outside : Type 0 where
   pub depot : DepotAccount
   pub sink : SinkAccount
 
--- what is seen of a run: the words that it was given, and the outside before it and after it
-pub record Seen : Type 0 where
+-- what a run is judged by: the words that it was given, and the outside before it and after it
+pub record RunAccount : Type 0 where
   pub words : List (List ℕ)
   pub before : Outside
   pub after : Outside
 
-abbrev pub seen_of : List (List ℕ) → DepotAccount × SinkAccount → DepotAccount × SinkAccount → Seen
-seen_of words before after = record {
+abbrev pub run_account : List (List ℕ) → DepotAccount × SinkAccount → DepotAccount × SinkAccount → RunAccount
+run_account words before after = record {
   words = words;
   before = record { depot = before.0; sink = before.1 };
   after = record { depot = after.0; sink = after.1 };
 }
 
 -- the words were accepted
-abbrev pub IsAccepted : Seen → Type 0
-IsAccepted seen = IsSome (names_of seen.words)
+abbrev pub IsAccepted : RunAccount → Type 0
+IsAccepted run = IsSome (names_of run.words)
 
--- the count of the depot's faults, and of the sink's, rose in the run; or stands as before
-abbrev pub ReadingFailed : Seen → Type 0
-ReadingFailed seen = Rose seen.before.depot.faults seen.after.depot.faults 1
+-- the count of the depot's faults rose by one in the run
+abbrev pub ReadingFailed : RunAccount → Type 0
+ReadingFailed run = Rose run.before.depot.faults run.after.depot.faults 1
 
-abbrev pub WritingFailed : Seen → Type 0
-WritingFailed seen = Rose seen.before.sink.faults seen.after.sink.faults 1
+-- the count of the sink's faults rose by one
+abbrev pub WritingFailed : RunAccount → Type 0
+WritingFailed run = Rose run.before.sink.faults run.after.sink.faults 1
 
-abbrev pub NoReadCounted : Seen → Type 0
-NoReadCounted seen = seen.after.depot.faults ≡ seen.before.depot.faults
+-- the depot counted no fault
+abbrev pub NoReadFault : RunAccount → Type 0
+NoReadFault run = run.after.depot.faults ≡ run.before.depot.faults
 
-abbrev pub NoWriteCounted : Seen → Type 0
-NoWriteCounted seen = seen.after.sink.faults ≡ seen.before.sink.faults
+-- the sink counted no fault
+abbrev pub NoWriteFault : RunAccount → Type 0
+NoWriteFault run = run.after.sink.faults ≡ run.before.sink.faults
 
 -- the cause of each status, whether the depot tells its files or not
-abbrev pub HasCause : Seen → Status → Type 0
-HasCause seen status.Done = IsAccepted seen
-HasCause seen status.DoneWithRefusals = IsAccepted seen
-HasCause seen status.Usage = names_of seen.words ≡ None
-HasCause seen status.BoardRefused = IsAccepted seen
-HasCause seen status.ReadFault = IsAccepted seen × ReadingFailed seen
-HasCause seen status.WriteFault = WritingFailed seen
-HasCause seen status.Memory = ⊤
-HasCause seen status.Absent = IsAccepted seen × Rose seen.before.depot.misses seen.after.depot.misses 1
-HasCause seen status.TooLong = IsAccepted seen × Rose seen.before.depot.taken seen.after.depot.taken (FILE_BYTES + 1)
+abbrev pub HasCause : RunAccount → Status → Type 0
+HasCause run status.Done = IsAccepted run
+HasCause run status.DoneWithRefusals = IsAccepted run
+HasCause run status.Usage = names_of run.words ≡ None
+HasCause run status.BoardRefused = IsAccepted run
+HasCause run status.ReadFault = IsAccepted run × ReadingFailed run × (run.after.sink ≡ run.before.sink)
+HasCause run status.WriteFault = WritingFailed run
+HasCause run status.Memory = ⊤
+HasCause run status.Absent = IsAccepted run × Rose run.before.depot.misses run.after.depot.misses 1
+HasCause run status.TooLong = IsAccepted run × Rose run.before.depot.taken run.after.depot.taken (FILE_BYTES + 1)
 
 -- a count of faults stands still, but for the fault that the status tells
-abbrev pub CountsFaults : Seen → Status → Type 0
-CountsFaults seen status.Done = NoReadCounted seen × NoWriteCounted seen
-CountsFaults seen status.DoneWithRefusals = NoReadCounted seen × NoWriteCounted seen
-CountsFaults seen status.Usage = NoReadCounted seen × NoWriteCounted seen
-CountsFaults seen status.BoardRefused = NoReadCounted seen × NoWriteCounted seen
-CountsFaults seen status.ReadFault = NoWriteCounted seen
-CountsFaults seen status.WriteFault = NoReadCounted seen
-CountsFaults seen status.Memory = NoReadCounted seen × NoWriteCounted seen
-CountsFaults seen status.Absent = NoReadCounted seen × NoWriteCounted seen
-CountsFaults seen status.TooLong = NoReadCounted seen × NoWriteCounted seen
+abbrev pub CountsFaults : RunAccount → Status → Type 0
+CountsFaults run status.Done = NoReadFault run × NoWriteFault run
+CountsFaults run status.DoneWithRefusals = NoReadFault run × NoWriteFault run
+CountsFaults run status.Usage = NoReadFault run × NoWriteFault run
+CountsFaults run status.BoardRefused = NoReadFault run × NoWriteFault run
+CountsFaults run status.ReadFault = NoWriteFault run
+CountsFaults run status.WriteFault = NoReadFault run
+CountsFaults run status.Memory = NoReadFault run × NoWriteFault run
+CountsFaults run status.Absent = NoReadFault run × NoWriteFault run
+CountsFaults run status.TooLong = NoReadFault run × NoWriteFault run
 
 -- a run that stopped before what is due was put whole
 abbrev pub IsStopped : Status → Type 0
 IsStopped got = (got ≡ status.ReadFault) ⊎ (got ≡ status.WriteFault) ⊎ (got ≡ status.Memory)
 
 -- the run ended as is due and put what is due, or it stopped and put a first part of that; where what is due is known
-abbrev pub MeetsDue : Seen → Status → Type 0
-MeetsDue seen got =
-    IfSome (due_of seen.words seen.before.depot.files) (λ due.
-    ((got ≡ due.status) × Puts seen.before.sink seen.after.sink due.text) ⊎ (IsStopped got × PutsPart seen.before.sink seen.after.sink due.text))
+abbrev pub MeetsDue : RunAccount → Status → Type 0
+MeetsDue run got =
+    IfSome (due_of run.words run.before.depot.files) (λ due.
+    ((got ≡ due.status) × Puts run.before.sink run.after.sink due.text)
+    ⊎ (IsStopped got × PutsPart run.before.sink run.after.sink due.text))
 
 -- the files hold these bytes under a name, within the limit of a file
 abbrev pub Holds : Files → List ℕ → List ℕ → Type 0
@@ -87,10 +91,10 @@ Holds files name bytes = (get files name ≡ Some bytes) × (length bytes ≤ FI
 
 -- the headline: for a board and a session that are held and accepted, where no count of faults rose and memory was not
 -- refused, the bytes put are the session's text
-abbrev pub Headline : Seen → Status → Type 0
-Headline seen got =
+abbrev pub Headline : RunAccount → Status → Type 0
+Headline run got =
     (name session_name bytes session : List ℕ) (files : Files) (board : BoardParts)
-    → names_of seen.words ≡ Some (name, session_name) → seen.before.depot.files ≡ Some files
+    → names_of run.words ≡ Some (name, session_name) → run.before.depot.files ≡ Some files
     → Holds files name bytes → board_of bytes ≡ Ok board → Holds files session_name session
-    → (ReadingFailed seen → ⊥) → (WritingFailed seen → ⊥) → (got ≡ status.Memory → ⊥)
-    → Puts seen.before.sink seen.after.sink (session_of board session).text
+    → (ReadingFailed run → ⊥) → (WritingFailed run → ⊥) → (got ≡ status.Memory → ⊥)
+    → Puts run.before.sink run.after.sink (session_of board session).text

@@ -1,7 +1,7 @@
 -- What a line of a session says.
 use Rattle.std.specs.Prelude.{ℕ, ◌==◌, nat_lt, nat_le, Bool, false, ◌&&◌, ◌||◌, not, if◌then◌else◌, codes, List, [], ◌∷◌, length, filter, Option, Some, None, Result, Ok, Err, ℤ}
 use Rattle.std.specs.List.{list_all, slice_split}
-use Rattle.std.specs.Str.{IsAscii, bytes_eq}
+use Rattle.std.specs.Str.{bytes_eq}
 use Rattle.std.specs.Str.Lines.{lines}
 use Rattle.csv.specs.Reading.{strip_bom}
 use Rattle.xf_app.specs.declared.script.Command.{Command}
@@ -25,8 +25,8 @@ abbrev pub words_of : List ℕ → List (List ℕ)
 words_of line = filter (λ word. not (length word == 0)) (slice_split is_space line)
 
 -- not too long, all of ASCII, and without a double quote
-abbrev pub is_ascii_line : List ℕ → Bool
-is_ascii_line line = nat_le (length line) LINE_BYTES && list_all (λ byte. nat_lt byte 128 && not (byte == 34)) line
+abbrev pub is_readable_line : List ℕ → Bool
+is_readable_line line = nat_le (length line) LINE_BYTES && list_all (λ byte. nat_lt byte 128 && not (byte == 34)) line
 
 -- the range of two words, where both are whole numbers
 abbrev pub range_of : Result ℤ NumberRefusal → Result ℤ NumberRefusal → Option Range
@@ -37,17 +37,17 @@ range_of (Err refusal) (Err other) = None
 
 -- five words are a filter where the first and the third are `filter` and `range`
 abbrev pub filter_of_words : List ℕ → List ℕ → List ℕ → List ℕ → List ℕ → Command
-filter_of_words verb dimension sort low high =
-    if bytes_eq verb (codes "filter") && bytes_eq sort (codes "range") then Filter dimension (range_of (number_of low 0) (number_of high 0)) else Unknown
+filter_of_words verb dimension kind low high =
+    if bytes_eq verb (codes "filter") && bytes_eq kind (codes "range") then Filter dimension (range_of (number_of low 0) (number_of high 0)) else Unknown
 
 abbrev pub command_of_words : List (List ℕ) → Command
 command_of_words [] = Skip
 command_of_words (verb ∷ []) = Unknown
 command_of_words (verb ∷ dimension ∷ []) = Unknown
-command_of_words (verb ∷ dimension ∷ sort ∷ []) = Unknown
-command_of_words (verb ∷ dimension ∷ sort ∷ low ∷ []) = Unknown
-command_of_words (verb ∷ dimension ∷ sort ∷ low ∷ high ∷ []) = filter_of_words verb dimension sort low high
-command_of_words (verb ∷ dimension ∷ sort ∷ low ∷ high ∷ more ∷ rest) = Unknown
+command_of_words (verb ∷ dimension ∷ kind ∷ []) = Unknown
+command_of_words (verb ∷ dimension ∷ kind ∷ low ∷ []) = Unknown
+command_of_words (verb ∷ dimension ∷ kind ∷ low ∷ high ∷ []) = filter_of_words verb dimension kind low high
+command_of_words (verb ∷ dimension ∷ kind ∷ low ∷ high ∷ more ∷ rest) = Unknown
 
 -- whether the first word begins with `#`
 abbrev pub is_comment : List (List ℕ) → Bool
@@ -55,13 +55,9 @@ is_comment [] = false
 is_comment ([] ∷ words) = false
 is_comment ((byte ∷ word) ∷ words) = byte == 35
 
--- any other line is no command that is known; then a line without words and a comment are no step
+-- a line that cannot be read is unknown; a comment is no step; any other line says what its words say
 abbrev pub command_of : List ℕ → Command
 command_of line =
-    if not (is_ascii_line line) then Unknown
+    if not (is_readable_line line) then Unknown
     else if is_comment (words_of line) then Skip
     else command_of_words (words_of line)
-
--- a word of ASCII bytes
-abbrev pub IsAsciiWord : List ℕ → Type 0
-IsAsciiWord word = IsAscii word

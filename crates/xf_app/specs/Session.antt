@@ -1,6 +1,5 @@
 -- What a line does in a state, and how it is answered.
-use Rattle.std.specs.Prelude.{ℕ, List, [], ◌++◌, codes, decimal, Option, Some, None, position, slice_set}
-use Rattle.std.specs.Str.{bytes_eq}
+use Rattle.std.specs.Prelude.{ℕ, List, [], ◌++◌, codes, decimal, Option, Some, None, slice_set}
 use Rattle.xf_app.specs.Script.{command_of}
 use Rattle.xf_app.specs.declared.script.Command.{Command}
 use Rattle.xf_app.specs.declared.script.Command.TheVariants.{Skip, Unknown, Filter}
@@ -8,6 +7,7 @@ use Rattle.xf_app.specs.declared.session.Refusal.{Refusal}
 use Rattle.xf_app.specs.declared.session.Refusal.TheVariants.{UnknownVerb, NoDimension, WrongKind}
 use Rattle.xf_app.specs.declared.session.Reply.{Reply}
 use Rattle.xf_app.specs.declared.session.Reply.TheVariants.{Skipped, Refused, Moved}
+use Rattle.xf_base.specs.Schema.{place_of}
 use Rattle.xf_base.specs.Word.{word_text}
 use Rattle.xf_engine.specs.Cross.{State, moved_count}
 use Rattle.xf_engine.specs.declared.range.Range.{Range}
@@ -19,11 +19,15 @@ refusal_words UnknownVerb = codes "3 unknown verb"
 refusal_words (NoDimension name) = codes "6 no dimension " ++ word_text name
 refusal_words WrongKind = codes "9 wrong kind number text"
 
+-- the words of a filter that was set: how many records moved
+abbrev pub moved_words : ℕ → List ℕ
+moved_words count = codes "moved " ++ decimal count
+
 -- a range is set on the dimension at a place
 abbrev pub range_outcome : State → ℕ → Option Range → Outcome State
 range_outcome state place None = refused (refusal_words WrongKind)
 range_outcome state place (Some new) =
-    accepted (record state { ranges = slice_set state.ranges place (Some new) }) (codes "moved " ++ decimal (moved_count state place new))
+    accepted (record state { ranges = slice_set state.ranges place (Some new) }) (moved_words (moved_count state place new))
 
 -- a range is set on the dimension of a name, which stands at a place or is none
 abbrev pub filter_outcome : State → List ℕ → Option Range → Option ℕ → Outcome State
@@ -33,7 +37,7 @@ filter_outcome state name new (Some place) = range_outcome state place new
 abbrev pub command_outcome : State → Command → Outcome State
 command_outcome state Skip = skipped
 command_outcome state Unknown = refused (refusal_words UnknownVerb)
-command_outcome state (Filter name new) = filter_outcome state name new (position (λ column. bytes_eq column.name name) state.columns)
+command_outcome state (Filter name new) = filter_outcome state name new (place_of state.columns name)
 
 -- what a line does in a state
 abbrev pub command : State → List ℕ → Outcome State
@@ -43,16 +47,10 @@ command state line = command_outcome state (command_of line)
 abbrev pub reply_outcome : Reply → State → Outcome State
 reply_outcome Skipped state = skipped
 reply_outcome (Refused refusal) state = refused (refusal_words refusal)
-reply_outcome (Moved count) state = accepted state (codes "moved " ++ decimal count)
-
--- a reply that is not of a change
-abbrev pub IsUnmoved : Reply → Type 0
-IsUnmoved Skipped = Unit {0}
-IsUnmoved (Refused refusal) = Unit {0}
-IsUnmoved (Moved count) = ⊥
+reply_outcome (Moved count) state = accepted state (moved_words count)
 
 -- the line of a step of this number
 abbrev pub reply_text : ℕ → Reply → List ℕ
 reply_text number Skipped = []
 reply_text number (Refused refusal) = step_line number (codes "refused " ++ refusal_words refusal)
-reply_text number (Moved count) = step_line number (codes "ok " ++ (codes "moved " ++ decimal count))
+reply_text number (Moved count) = step_line number (codes "ok " ++ moved_words count)

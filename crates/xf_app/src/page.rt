@@ -1,16 +1,17 @@
 //! The data view of a crossfilter: its counts, the whole `all`, and the group of each column.
 ghost use Rattle.std.specs.Prelude.{◌≡◌, ◌++◌, OnOk};
-ghost use Rattle.xf_app.specs.Page.{atom_text, counts_lines, data_view, entry_line, group_lines, key_text};
+ghost use Rattle.xf_app.specs.Page.{counts_lines, data_view, entry_line, group_lines};
 ghost use Rattle.xf_base.specs.Fixed.{fixed_text};
+ghost use Rattle.xf_base.specs.Form.{key_text};
 ghost use Rattle.xf_base.specs.Word.{word_text};
 
 use std::alloc::Global;
 use std::sync::ledger::Ledger;
-use xf_base::{Atom, Key, OutOfMemory, Steps, put_fixed, put_number, put_word};
+use xf_base::{AtomForm, Key, KeyForm, OutOfMemory, Steps, put_fixed, put_number, put_word};
 use xf_engine::{Cross, KeyNumber};
 
 /// Appends the data view: `records SIZE passing COUNT`, `whole all COUNT`, and for each column `group NAME KEYS` with
-/// a line `  KEY COUNT` for each of its keys.
+/// a line `  KEY COUNT` for each of its keys. Where memory is refused a part of it may stand in `out`.
 pub fn put_data_view<L: Ledger>(
     alloc: Global,
     out: &mut Vec<u8>,
@@ -83,31 +84,16 @@ fn put_entry(alloc: Global, out: &mut Vec<u8>, entry: &KeyNumber) -> Result<(), 
     Ok(())
 }
 
-/// Appends a key as a word. A number needs no quotes.
+/// Appends a key of whole numbers as a word. A number needs no quotes, and so no text of its own.
 fn put_key(alloc: Global, out: &mut Vec<u8>, key: &Key) -> Result<(), OutOfMemory>
-    ensures ok { OnOk result (out.new.items ≡ out.old.items ++ word_text (key_text key.now)) }
+    ensures ok { OnOk result (out.new.items ≡ out.old.items ++ word_text (key_text (KeyForm.One (AtomForm.Fixed 0)) key.now)) }
 {
-    match key {
-        Key::Num(number) => put_whole(out, *number),
-        Key::Text(text) => put_word(out, text.as_str().as_bytes()),
-        Key::Pair(first, second) => {
-            let mut text = Vec::new(alloc);
-            put_atom(&mut text, first)?;
-            text.push(b'|')?;
-            put_atom(&mut text, second)?;
-            put_word(out, text.as_slice())
-        }
+    if let Key::Num(number) = key {
+        return put_whole(out, *number);
     }
-}
-
-/// Appends a part of a key as text.
-fn put_atom(out: &mut Vec<u8>, atom: &Atom) -> Result<(), OutOfMemory>
-    ensures ok { OnOk result (out.new.items ≡ out.old.items ++ atom_text atom.now) }
-{
-    match atom {
-        Atom::Num(number) => put_whole(out, *number),
-        Atom::Text(text) => Ok(out.extend_from_slice(text.as_str().as_bytes())?),
-    }
+    let mut text = Vec::new(alloc);
+    xf_base::put_key(&mut text, &KeyForm::One(AtomForm::Fixed(0)), key)?;
+    put_word(out, text.as_slice())
 }
 
 /// Appends a whole number, which is a word by itself.

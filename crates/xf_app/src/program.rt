@@ -1,7 +1,7 @@
 //! The program: the way from its words to a board and a session, and what is put for them.
 ghost use Rattle.std.specs.Prelude.{◌≡◌, None, map, string_bytes};
 ghost use Rattle.xf_app.specs.Ends.{IsRun};
-ghost use Rattle.xf_app.specs.Run.{CountsFaults, HasCause, Headline, MeetsDue, seen_of};
+ghost use Rattle.xf_app.specs.Run.{CountsFaults, HasCause, Headline, MeetsDue, run_account};
 ghost use Rattle.xf_app.specs.Words.{names_of};
 
 use crate::board::read_board;
@@ -26,18 +26,26 @@ pub fn run<D: Depot, S: Sink, L: Ledger>(
     steps: &mut Steps<L>,
 ) -> Status
     // Why it ended so: the cause of each status, and that no count of faults rises but for the fault that is told.
-    ensures cause { let seen = seen_of (map string_bytes words.now) (D.account depot.old, S.account sink.old) (D.account depot.new, S.account sink.new)
-        in HasCause seen result }
-    ensures faults { let seen = seen_of (map string_bytes words.now) (D.account depot.old, S.account sink.old) (D.account depot.new, S.account sink.new)
-        in CountsFaults seen result }
+    ensures cause {
+        let run = run_account (map string_bytes words.now)
+            (D.account depot.old, S.account sink.old) (D.account depot.new, S.account sink.new)
+        in HasCause run result }
+    ensures faults {
+        let run = run_account (map string_bytes words.now)
+            (D.account depot.old, S.account sink.old) (D.account depot.new, S.account sink.new)
+        in CountsFaults run result }
 
     // What was put: all that is due for these words and files, with the status that is due, or a first part of it.
-    ensures due { let seen = seen_of (map string_bytes words.now) (D.account depot.old, S.account sink.old) (D.account depot.new, S.account sink.new)
-        in MeetsDue seen result }
+    ensures due {
+        let run = run_account (map string_bytes words.now)
+            (D.account depot.old, S.account sink.old) (D.account depot.new, S.account sink.new)
+        in MeetsDue run result }
 
     // So the bytes put are the session's text, where board and session are held and accepted and nothing failed.
-    ensures headline { let seen = seen_of (map string_bytes words.now) (D.account depot.old, S.account sink.old) (D.account depot.new, S.account sink.new)
-        in Headline seen result }
+    ensures headline {
+        let run = run_account (map string_bytes words.now)
+            (D.account depot.old, S.account sink.old) (D.account depot.new, S.account sink.new)
+        in Headline run result }
 
     ensures untouched { names_of (map string_bytes words.now) ≡ None → depot.new ≡ depot.old }
 {
@@ -52,8 +60,10 @@ fn answer<D: Depot, S: Sink, L: Ledger>(
     sink: &mut S,
     steps: &mut Steps<L>,
 ) -> Status
-    ensures meets { let seen = seen_of (map string_bytes words.now) (D.account depot.old, S.account sink.old) (D.account depot.new, S.account sink.new)
-        in IsRun seen result }
+    ensures meets {
+        let run = run_account (map string_bytes words.now)
+            (D.account depot.old, S.account sink.old) (D.account depot.new, S.account sink.new)
+        in IsRun run result }
     ensures untouched { names_of (map string_bytes words.now) ≡ None → depot.new ≡ depot.old }
 {
     let Some((board_name, session_name)) = names_of(words) else {

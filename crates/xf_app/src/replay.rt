@@ -100,7 +100,7 @@ fn advance<S: Sink, L: Ledger>(
 }
 
 /// Does one line. What is to be put for it stands in `out` then, and nothing else; for a line that is no step that is
-/// nothing.
+/// nothing. Where memory is refused the line may be done already; the run ends then.
 fn step<L: Ledger>(
     alloc: Global,
     cross: &mut Cross,

@@ -1,9 +1,10 @@
 //! The lines of a session: where each ends, and what it says.
 ghost use Rattle.std.specs.Prelude.{◌≡◌, ◌<◌, ◌∷◌, IfOk, length, map};
 ghost use Rattle.std.specs.List.{AllByRecursion};
+ghost use Rattle.std.specs.Str.{IsAscii};
 ghost use Rattle.std.specs.Str.Lines.{lines, strip_carriage_return};
 ghost use Rattle.csv.specs.Reading.{strip_bom};
-ghost use Rattle.xf_app.specs.Script.{IsAsciiWord, command_of, command_of_words, is_ascii_line, range_of, words_of};
+ghost use Rattle.xf_app.specs.Script.{command_of, command_of_words, is_readable_line, range_of, words_of};
 ghost use Rattle.xf_base.specs.Fixed.{number_of};
 
 use std::alloc::Global;
@@ -57,9 +58,9 @@ fn without_return(line: &[u8]) -> &[u8]
     }
 }
 
-/// Whether a line is short enough, ASCII and without quotes.
-fn is_ascii_line(line: &[u8]) -> bool
-    ensures { result ≡ is_ascii_line line.now }
+/// Whether a line is short enough, ASCII and without a double quote.
+fn is_readable_line(line: &[u8]) -> bool
+    ensures { result ≡ is_readable_line line.now }
 {
     line.len() as u64 <= Limits::LINE_BYTES && line.iter().all(|byte| *byte < 128 && *byte != b'"')
 }
@@ -68,7 +69,7 @@ fn is_ascii_line(line: &[u8]) -> bool
 pub fn read_command(alloc: Global, line: &[u8]) -> Result<Command, OutOfMemory>
     ensures { IfOk result (λ command. command ≡ command_of line.now) }
 {
-    if !is_ascii_line(line) {
+    if !is_readable_line(line) {
         return Ok(Command::Unknown);
     }
     let words = words_of(alloc, line)?;
@@ -91,13 +92,13 @@ fn words_of(alloc: Global, line: &[u8]) -> Result<Vec<&[u8]>, OutOfMemory>
 
 /// What words of ASCII say, where the first is no comment's.
 fn command_of_words(alloc: Global, words: &[&[u8]]) -> Result<Command, OutOfMemory>
-    requires { AllByRecursion IsAsciiWord (map (λ word. word.now) words.now) }
+    requires { AllByRecursion IsAscii (map (λ word. word.now) words.now) }
     ensures { IfOk result (λ command. command ≡ command_of_words (map (λ word. word.now) words.now)) }
 {
     match words {
         [] => Ok(Command::Skip),
-        [verb, dimension, sort, low, high]
-            if *verb == b"filter".as_slice() && *sort == b"range".as_slice() => {
+        [verb, dimension, kind, low, high]
+            if *verb == b"filter".as_slice() && *kind == b"range".as_slice() => {
             Ok(Command::Filter {
                 dimension: text_of_word(alloc, dimension)?,
                 range: range_of(low, high),
@@ -109,7 +110,7 @@ fn command_of_words(alloc: Global, words: &[&[u8]]) -> Result<Command, OutOfMemo
 
 /// A word of ASCII as a text.
 fn text_of_word(alloc: Global, word: &[u8]) -> Result<Text, OutOfMemory>
-    requires { IsAsciiWord word.now }
+    requires { IsAscii word.now }
     ensures { IfOk result (λ text. text ≡ word.now) }
 {
     match str::from_utf8(word) {

@@ -1,7 +1,8 @@
 //! A line of a session, done on a crossfilter, and its answer.
-ghost use Rattle.std.specs.Prelude.{◌≡◌, [], ◌∷◌, ◌++◌, IfOk, OnErr, OnOk, codes, decimal, position};
-ghost use Rattle.std.specs.Str.{bytes_eq};
-ghost use Rattle.xf_app.specs.Session.{IsUnmoved, command, filter_outcome, refusal_words, reply_outcome, reply_text};
+ghost use Rattle.std.specs.Prelude.{◌≡◌, [], ◌∷◌, ◌++◌, IfOk, OnErr, OnOk, codes, decimal};
+ghost use Rattle.xf_app.specs.Session.{command, filter_outcome, refusal_words, reply_outcome, reply_text};
+ghost use Rattle.xf_base.specs.Schema.{place_of};
+ghost use Rattle.xf_model.specs.Replay.{state_after};
 
 use crate::script::{Command, read_command};
 use std::alloc::Global;
@@ -38,7 +39,7 @@ pub fn apply<L: Ledger>(
     steps: &mut Steps<L>,
 ) -> Result<Reply, OutOfMemory>
     ensures answer { IfOk result (λ reply. reply_outcome reply cross.new ≡ command cross.old line.now) }
-    ensures unmoved { IfOk result (λ reply. IsUnmoved reply → cross.new ≡ cross.old) }
+    ensures state { IfOk result (λ reply. cross.new ≡ state_after cross.old (command cross.old line.now)) }
     ensures err { OnErr result (cross.new ≡ cross.old) }
 {
     Ok(match read_command(alloc, line)? {
@@ -55,8 +56,8 @@ fn filter<L: Ledger>(
     range: Option<Range>,
     steps: &mut Steps<L>,
 ) -> Reply
-    ensures answer { reply_outcome result cross.new ≡ filter_outcome cross.old name range (position (λ column. bytes_eq column.name name) cross.old.columns) }
-    ensures unmoved { IsUnmoved result → cross.new ≡ cross.old }
+    ensures answer { reply_outcome result cross.new ≡ filter_outcome cross.old name range (place_of cross.old.columns name) }
+    ensures state { cross.new ≡ state_after cross.old (filter_outcome cross.old name range (place_of cross.old.columns name)) }
 {
     match (cross.schema().place_of(name.as_str().as_bytes()), range) {
         (None, _) => Reply::Refused(Refusal::NoDimension { name }),
@@ -82,7 +83,8 @@ fn put_refusal(out: &mut Vec<u8>, refusal: &Refusal) -> Result<(), OutOfMemory>
     Ok(())
 }
 
-/// Appends the line of the step of this number; nothing for a line that is no step.
+/// Appends the line of the step of this number; nothing for a line that is no step. Where memory is refused a part of it
+/// may stand in `out`.
 pub fn put_step(out: &mut Vec<u8>, number: u64, reply: &Reply) -> Result<(), OutOfMemory>
     ensures ok { OnOk result (out.new.items ≡ out.old.items ++ reply_text number reply.now) }
 {

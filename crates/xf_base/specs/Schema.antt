@@ -1,7 +1,8 @@
--- What a column of a schema keeps: sound numbers of decimals and separators, and a blank that is a cell of it.
-use Rattle.std.specs.Prelude.{ℕ, ◌+◌, ◌-◌, ◌<◌, ◌≤◌, nat_le, Bool, true, false, ◌&&◌, if◌then◌else◌, ℤ, pos, neg_ℤ, nat_abs, int_le, ◌≤ℤ◌, List, [], ◌∷◌, length, sum_by, Option, Some, None, IfSome, option_map, ⊤}
+-- What a schema asks of its columns and of a row, and where a row does not fit.
+use Rattle.std.specs.Prelude.{ℕ, ◌+◌, ◌-◌, ◌<◌, ◌≤◌, nat_le, Bool, true, false, ◌&&◌, if◌then◌else◌, ℤ, pos, neg_ℤ, nat_abs, int_le, ◌≤ℤ◌, List, [], ◌∷◌, length, sum_by, Option, Some, None, IfSome, option_map, position, ⊤}
 use Rattle.std.specs.List.{AllZip}
 use Rattle.std.specs.List.Sorted.{IsStrictlySortedBy}
+use Rattle.std.specs.Str.{bytes_eq}
 use Rattle.std.specs.Ordering.{is_lt}
 use Rattle.xf_base.specs.Key.{text_cmp}
 use Rattle.xf_base.specs.declared.date.TheConstants.{FIRST_DAY, LAST_DAY}
@@ -21,7 +22,7 @@ IsCellNumber number = (neg_ℤ (pos (GREATEST_NUMBER)) ≤ℤ number) × (number
 abbrev pub IsDay : ℤ → Type 0
 IsDay day = (FIRST_DAY ≤ℤ day) × (day ≤ℤ LAST_DAY)
 
--- so many tags, ascending and distinct, of so many bytes with a separator between each two
+-- at most 64 tags, ascending and distinct, of at most 4,096 bytes with a separator between each two
 abbrev pub AreTags : List (List ℕ) → Type 0
 AreTags tags = (length tags ≤ CELL_VALUES) × (sum_by length tags + (length tags - 1) ≤ CELL_BYTES) × IsStrictlySortedBy text_cmp tags
 
@@ -54,6 +55,10 @@ IsSoundKind (kind.Tags separator) = separator < 128
 pub record IsColumn (column : Column) : Type 0 where
   pub kind : IsSoundKind column.kind
   pub blank : IfSome column.blank (IsCellOf column.kind)
+
+-- the place of the first column of a name
+abbrev pub place_of : List Column → List ℕ → Option ℕ
+place_of columns name = position (λ column. bytes_eq column.name name) columns
 
 -- a row with one cell for each column, each of its column's kind
 abbrev pub IsRowOf : List Column → List Cell → Type 0

@@ -1,6 +1,5 @@
 //! The schema: the columns of a table.
-ghost use Rattle.std.specs.Prelude.{◌≡◌, ◌<◌, [], ◌∷◌, ◌++◌, ◌↔◌, length, position, IfSome, IsNone, OnOk, OnErr};
-ghost use Rattle.std.specs.Str.{bytes_eq};
+ghost use Rattle.std.specs.Prelude.{◌≡◌, ◌<◌, [], ◌∷◌, ◌++◌, ◌↔◌, length, IfSome, IsNone, OnOk, OnErr};
 
 use crate::column::Column;
 use crate::misfit::first_misfit;
@@ -31,7 +30,7 @@ impl Model for Schema {
 
 impl Schema {
     ghost use Rattle.std.specs.List.{AllByRecursion};
-    ghost use Rattle.xf_base.specs.Schema.{IsColumn, IsRowOf, misfit_of};
+    ghost use Rattle.xf_base.specs.Schema.{IsColumn, IsRowOf, misfit_of, place_of};
 
     /// A schema without columns.
     pub fn new(alloc: Global) -> Schema
@@ -69,13 +68,14 @@ impl Schema {
 
     /// The place, from 0 on, of the first column of a name; None where no column has it.
     pub fn place_of(&self, name: &[u8]) -> Option<usize>
-        ensures place { result ≡ position (λ column. bytes_eq column.name name.now) self.now }
+        ensures place { result ≡ place_of self.now name.now }
         ensures within { IfSome result (λ place. place < length self.now) }
     {
         self.columns
             .iter()
             .position(|column| column.name.as_str().as_bytes() == name)
     }
+
     /// Where a row is not of the schema: the first column, from 0 on, for which it has no cell or one of another kind, or
     /// the number of columns where it has more cells. None where it has one cell for each column, each of the column's
     /// kind: numbers from -10^15 to 10^15, dates of the years 0000 to 9999, texts and joined tags of at most 4,096
