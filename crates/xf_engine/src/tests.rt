@@ -4,7 +4,7 @@ ghost use Rattle.std.specs.List.{AllByRecursion};
 ghost use Rattle.xf_base.specs.Schema.{IsRowOf};
 ghost use Rattle.xf_engine.specs.Cross.{IsInt};
 
-use crate::{Cross, KeyNumber, Range};
+use crate::{AddRefusal, Cross, KeyNumber, Range};
 use std::alloc::Global;
 use std::marker::Brand;
 use std::process::Abort;
@@ -17,6 +17,10 @@ use xf_base::{
 /// What is done, and what must be seen then.
 #[derive(Clone, Copy)]
 enum Step {
+    /// Records, and why they are refused where they are.
+    Add(&'static [(i16, i16)], Option<AddRefusal>),
+    /// How many records there are.
+    Size(u64),
     /// A range on a dimension, and how many records it moves.
     Filter(usize, Range, u64),
     /// How many records pass.
@@ -57,8 +61,7 @@ fn pair(alloc: Global, schema: &Schema, first: i16, second: i16) -> Result<Row, 
 fn pairs(alloc: Global, schema: &Schema, records: &[(i16, i16)]) -> Result<RowList, OutOfMemory>
     requires two { length schema.now ≡ 2 }
     requires ints { AllByRecursion IsInt schema.now }
-    ensures all { IfOk result (λ rows. length rows ≡ length records.now) }
-    ensures of_schema { IfOk result (λ rows. AllByRecursion (IsRowOf schema.now) rows) }
+    ensures { IfOk result (λ rows. AllByRecursion (IsRowOf schema.now) rows) }
 {
     let mut rows = RowList::new(alloc);
     for (first, second) in records {
@@ -82,22 +85,23 @@ fn see<L: Ledger>(
     rt: &impl Abort,
     alloc: Global,
     blank: Blank,
-    records: &[(i16, i16)],
+    limits: Limits,
     seen: &[Step],
 ) -> Result<(), Fail>
-    requires few { length records.now ≤ 4 }
+    requires two { 2 ≤ limits.dimensions }
     requires name { blank.name ≡ L.name }
     requires parts { blank.parts ≡ L.parts }
     requires some { 0 < blank.parts }
 {
     let mut steps = Steps::<L>::new(blank);
-    let schema = two_columns(alloc)?;
-    let rows = pairs(alloc, &schema, records)?;
-    let mut cross = Cross::new(alloc, schema, Limits::standard());
-    cross.add_records(rows, &mut steps)?;
-    assert_eq!(rt; cross.size(), records.len() as u64);
+    let mut cross = Cross::new(alloc, two_columns(alloc)?, limits);
     for step in seen {
         match step {
+            Step::Add(records, refusal) => {
+                let rows = pairs(alloc, cross.schema(), records)?;
+                assert_eq!(rt; cross.add_records(rows, &mut steps).err(), *refusal);
+            }
+            Step::Size(count) => assert_eq!(rt; cross.size(), *count),
             Step::Filter(dimension, range, moved) => {
                 assert!(rt; *dimension < cross.schema().len());
                 assert_eq!(rt;
@@ -119,19 +123,15 @@ fn see<L: Ledger>(
 #[test]
 fn worked_examples(rt: HostRuntime) -> Result<(), Fail> {
     let plain = [
+        Step::Add(&[(1, 10), (2, 20), (2, 30)], None),
         Step::Filter(0, Range { low: 2, high: 3 }, 1),
         Step::Passing(2),
         Step::Entries(0, &[(1, 1), (2, 2)]),
         Step::Entries(1, &[(10, 0), (20, 1), (30, 1)]),
     ];
-    see::<Brand>(
-        &rt,
-        rt.alloc(),
-        Blank::new(1),
-        &[(1, 10), (2, 20), (2, 30)],
-        &plain,
-    )?;
+    see::<Brand>(&rt, rt.alloc(), Blank::new(1), Limits::standard(), &plain)?;
     let flights = [
+        Step::Add(&[(-5, 100), (0, 200), (7, 100), (7, 300)], None),
         Step::Filter(0, Range { low: 0, high: 7 }, 3),
         Step::Passing(1),
         Step::Entries(0, &[(-5, 1), (0, 1), (7, 2)]),
@@ -142,11 +142,35 @@ fn worked_examples(rt: HostRuntime) -> Result<(), Fail> {
         Step::Passing(0),
         Step::Filter(0, Range { low: 8, high: 0 }, 0),
     ];
-    see::<Brand>(
-        &rt,
-        rt.alloc(),
-        Blank::new(1),
-        &[(-5, 100), (0, 200), (7, 100), (7, 300)],
-        &flights,
-    )
+    see::<Brand>(&rt, rt.alloc(), Blank::new(1), Limits::standard(), &flights)
+}
+
+/// At most four records, and six entries of two dimensions.
+#[test]
+fn refusals(rt: HostRuntime) -> Result<(), Fail> {
+    let limits = Limits {
+        rows: 4,
+        entries: 6,
+        ..Limits::standard()
+    };
+    let too_many_records = AddRefusal::TooManyRecords {
+        have: 2,
+        more: 3,
+        limit: 4,
+    };
+    let too_many_entries = AddRefusal::TooManyEntries {
+        have: 4,
+        more: 4,
+        limit: 6,
+    };
+    let steps = [
+        Step::Add(&[(1, 10), (2, 20)], None),
+        Step::Add(&[(3, 30), (4, 40), (5, 50)], Some(too_many_records)),
+        Step::Add(&[(3, 30), (4, 40)], Some(too_many_entries)),
+        Step::Size(2),
+        Step::Add(&[(2, 30)], None),
+        Step::Size(3),
+        Step::Entries(0, &[(1, 1), (2, 2)]),
+    ];
+    see::<Brand>(&rt, rt.alloc(), Blank::new(1), limits, &steps)
 }

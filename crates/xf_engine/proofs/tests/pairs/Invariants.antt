@@ -1,8 +1,7 @@
-use Rattle.std.proofs.Common.{◌≡◌, length}
 use Rattle.std.specs.List.{AllByRecursion}
 use Rattle.xf_base.specs.Schema.{IsRowOf}
 use Rattle.xf_engine.proofs.tests.pairs.Given as goal
 
--- a row for each record so far
+-- each row so far is of the schema
 abbrev pub invariant-loop-first : goal.invariant-loop-first
-invariant-loop-first l = (length l.rows ≡ l.first-index) × AllByRecursion (IsRowOf l.schema) l.rows
+invariant-loop-first l = AllByRecursion (IsRowOf l.schema) l.rows
