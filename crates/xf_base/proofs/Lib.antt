@@ -1,6 +1,7 @@
 pub mod DayParts
 pub mod DaysOfDates
 pub mod EqualKeys
+pub mod MisfitRows
 pub mod NumberWords
 pub mod ReadBackDates
 pub mod ReadDates

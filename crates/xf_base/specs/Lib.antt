@@ -4,6 +4,7 @@ pub mod Kind
 pub mod Bounds
 pub mod Cell
 pub mod Schema
+pub mod Misfit
 pub mod Fixed
 pub mod Date
 pub mod Form

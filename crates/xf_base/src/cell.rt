@@ -57,7 +57,7 @@ impl ListOf<Text> {
     }
 
     /// The bytes of all its texts, or `u64::MAX` where they are more.
-    fn total_bytes(&self) -> u64
+    pub(crate) fn total_bytes(&self) -> u64
         ensures { result ≡ min (sum_by length self.now) (2 ^ 64 - 1) }
     {
         let mut total: u64 = 0;
