@@ -4,6 +4,7 @@ pub mod EqualKeys
 pub mod Misfits
 pub mod NumberWords
 pub mod ReadBackDates
+pub mod ReadBackNumbers
 pub mod ReadDates
 pub mod ReadNumbers
 pub mod Utf8Texts

@@ -23,7 +23,8 @@ without_blanks-plain (first ∷ rest) some is_first is_last =
     let none = rw all at (suffix_len-take_no is_blank (first ∷ rest) (suc (length rest)) 0 (omega arith) (omega arith) is_last) in
     ap without_end_blanks start ∙ rw (none, whole) all
 
-digit-true : (digit : ℕ) → digit < 10 → is_ascii_digit (48 + digit) ≡ true
+-- what `0` to `9` are
+pub digit-true : (digit : ℕ) → digit < 10 → is_ascii_digit (48 + digit) ≡ true
 digit-true digit few = grind (arith, nat_tests)
 
 digit-not_blank : (digit : ℕ) → is_blank (48 + digit) ≡ false

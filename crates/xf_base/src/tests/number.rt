@@ -1,5 +1,5 @@
 //! Texts of numbers, by values from outside.
-use crate::{NumberRefusal, put_fixed, put_number, read_fixed};
+use crate::{NumberRefusal, put_fixed, put_number, read_fixed, texts_read_back};
 use std::test::Fail;
 
 #[test]
@@ -56,6 +56,7 @@ fn writes_numbers(rt: HostRuntime) -> Result<(), Fail> {
         put_fixed(&mut out, number, decimals)?;
         assert_eq!(rt; out.as_slice(), want.as_bytes(), "at {number}");
     }
+    texts_read_back();
     Ok(())
 }
 
