@@ -33,7 +33,9 @@ impl<'a> RecordReader<'a> {
     pub fn new(alloc: Global, bytes: &'a [u8]) -> Result<RecordReader<'a>, OutOfMemory>
         ensures { IfOk result (λ reader. reader ≡ records_of bytes.now) }
     {
-        let mut reader = ReaderBuilder::new().flexible(true).from_reader(alloc, bytes);
+        let mut reader = ReaderBuilder::new()
+            .flexible(true)
+            .from_reader(alloc, bytes);
         // With a header set, the reader keeps no copies of the first record.
         if reader.set_byte_headers(ByteRecord::new(alloc)).is_err() {
             return Err(OutOfMemory);
