@@ -20,12 +20,12 @@ use Rattle.xf_base.specs.declared.column.Column.{Column}
 use Rattle.xf_base.specs.declared.limits.TheConstants.Limits.{DIMENSIONS, ENTRIES, ROWS}
 use Rattle.xf_engine.specs.Cross.{IsInt}
 use Rattle.xf_load.specs.Cell.{cell_of}
-use Rattle.xf_load.specs.EachOk.{◌>>=◌, each_ok}
+use Rattle.xf_load.specs.Fallible.{◌>>=◌, each_ok}
 use Rattle.xf_load.specs.Load.{cell_at, place_of, places_of, row_of, rows_of}
 use Rattle.xf_load.specs.Records.{records_of}
 use Rattle.xf_load.specs.declared.load.LoadRefusal.{LoadRefusal}
 use Rattle.xf_load.proofs.CellFacts.{cell_of-kind}
-use Rattle.xf_load.proofs.EachOkFacts.{each_ok-length}
+use Rattle.xf_load.proofs.FallibleFacts.{each_ok-length}
 
 -- ---- values that are all there
 

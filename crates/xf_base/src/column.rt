@@ -21,6 +21,6 @@ pub enum ColumnKind {
 pub struct Column {
     pub name: Text,
     pub kind: ColumnKind,
-    /// The cell that an empty field gives, where there is one.
+    /// The cell that a field of nothing but blanks gives, where there is one.
     pub blank: Option<Cell>,
 }

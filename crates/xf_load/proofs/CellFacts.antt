@@ -1,15 +1,17 @@
 -- The cases of `cell_of`.
-use Rattle.std.proofs.Common.{◌≡◌, ◌⊎◌, inl, inr, ℕ, Bool, true, false, not, cond, List, Option, Some, None, Result, Ok, Err, refl, sym}
+use Rattle.std.proofs.Common.{◌≡◌, ◌⊎◌, inl, inr, ℕ, Bool, true, false, cond, List, Some, None, Result, Ok, Err, refl, sym, ◌∙◌, ℤ}
 use Rattle.std.specs.List.{list_all}
-use Rattle.std.specs.Option.{option_map_or}
 use Rattle.std.specs.Str.{IsUtf8, is_utf8}
 use Rattle.std.proofs.lemmas.Bool.{false_from_ne_true}
 use Rattle.std.proofs.lemmas.Str.{IsUtf8-from_is_utf8, is_utf8-from_IsUtf8}
-use Rattle.xf_base.specs.Fixed.{is_blank}
+use Rattle.xf_base.specs.Fixed.{is_blank, number_of}
 use Rattle.xf_base.specs.declared.cell.Cell.{Cell}
+use Rattle.xf_base.specs.declared.cell.Cell.TheVariants as cell
+use Rattle.xf_base.specs.declared.column.ColumnKind.TheVariants as kind
 use Rattle.xf_base.specs.declared.column.Column.{Column}
-use Rattle.xf_load.specs.Cell.{cell_of, cell_of_kind}
-use Rattle.std.specs.Result.{result_map_both}
+use Rattle.xf_load.specs.Fallible.{map_err}
+use Rattle.xf_load.specs.Cell.{cell_of, cell_of_kind, number_cell}
+use Rattle.xf_load.proofs.NumberFacts.{number_of-not_blank, number_of-text}
 use Rattle.xf_load.specs.declared.cell.CellRefusal.{CellRefusal}
 use Rattle.xf_load.specs.declared.cell.CellRefusal.TheVariants.{NotUtf8}
 use Rattle.xf_load.specs.declared.cell.ReadCellFault.{ReadCellFault}
@@ -40,9 +42,20 @@ cell_of-kind column field text (inl none) =
     either true x = refl
     either false x = refl
 
+-- a number is neither, so that a column of numbers is asked first
+cell_of-number : (column : Column) (field : List ℕ) (decimals : ℕ) (number : ℤ) → cell_of_kind column.kind field ≡ number_cell field decimals → number_of field decimals ≡ Ok number → cell_of column field ≡ Ok (cell.Num number)
+cell_of-number column field decimals number by_kind reads =
+    cell_of-kind column field (number_of-text field decimals number reads) (inr (number_of-not_blank field decimals number reads)) ∙ by_kind ∙ rw reads refl
+
+pub cell_of-int : (column : Column) (field : List ℕ) (number : ℤ) → column.kind ≡ kind.Int → number_of field 0 ≡ Ok number → cell_of column field ≡ Ok (cell.Num number)
+cell_of-int column field number is reads = cell_of-number column field 0 number (rw is refl) reads
+
+pub cell_of-fixed : (column : Column) (field : List ℕ) (decimals : ℕ) (number : ℤ) → column.kind ≡ kind.Fixed decimals → number_of field decimals ≡ Ok number → cell_of column field ≡ Ok (cell.Num number)
+cell_of-fixed column field decimals number is reads = cell_of-number column field decimals number (rw is refl) reads
+
 -- what an answer of `read_cell` tells of the field
 abbrev pub Tells : Result Cell ReadCellFault → Result Cell CellRefusal → Type 0
-Tells answer read = (answer ≡ Err OutOfMemory) ⊎ (answer ≡ result_map_both (λ cell. cell) Bad read)
+Tells answer read = (answer ≡ Err OutOfMemory) ⊎ (answer ≡ map_err Bad read)
 
 pub Tells-Ok : (cell : Cell) (read : Result Cell CellRefusal) → Tells (Ok cell) read → read ≡ Ok cell
 Tells-Ok cell read (inl none) = cc none

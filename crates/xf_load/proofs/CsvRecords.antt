@@ -1,9 +1,8 @@
 -- One read of a record is one step down the records of a file.
 use Rattle.std.proofs.Common.{◌≡◌, ℕ, zero, suc, ◌+◌, ◌-◌, ◌<◌, ◌≤◌, ◌⊎◌, inl, inr, Bool, true, false, cond, List, [], ◌∷◌, ◌++◌, length, Option, Some, None, IsSome, refl, ap, subst, ◌∙◌, arith, add-one, ◌==◌, ◌&&◌}
 use Rattle.csv.specs.Machine.{Read, next_record, step, in_field, start_field, start_record, ends_at_end, is_end, after_end, fields_after, field_after, is_byte, ends_with, carriage_return, line_feed}
-use Rattle.csv.specs.Reading.{NextIs, Ready, ReadRecord, ReadsNext, ReadsOn, default_config, is_bom, is_flexible, pending_of, records_from, records_next, strip_bom}
+use Rattle.csv.specs.Reading.{NextIs, ReadRecord, ReadsNext, ReadsOn, default_config, is_bom, is_flexible, pending_of, records_from, records_next, strip_bom}
 use Rattle.csv.specs.declared.reader.Reader.{Reader}
-use Rattle.csv.specs.declared.reader.Trim.TheVariants as trim
 use Rattle.xf_load.specs.Records.{records_of}
 use Rattle.xf_load.specs.RecordsAhead.{IsReading, records_ahead, records_in, records_left, unread}
 use Rattle.csv.specs.declared.parser.Action.{Action}

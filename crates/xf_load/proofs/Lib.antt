@@ -1,6 +1,7 @@
 pub mod CellFacts
 pub mod CsvRecords
-pub mod EachOkFacts
+pub mod FallibleFacts
 pub mod FieldFacts
 pub mod LoadFacts
+pub mod NumberFacts
 pub mod TagFacts

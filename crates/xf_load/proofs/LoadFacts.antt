@@ -1,5 +1,5 @@
 -- The places of columns and the rows of records, one at a time.
-use Rattle.std.proofs.Common.{◌≡◌, ◌⊎◌, inl, inr, ℕ, ◌+◌, ◌-◌, ◌<◌, ◌≤◌, List, [], ◌∷◌, ◌++◌, length, get_or, take, position, Option, Some, None, Result, Ok, Err, refl, sym, ap, ◌∙◌, arith, zero-add, add-zero, suc}
+use Rattle.std.proofs.Common.{◌≡◌, ◌⊎◌, inl, inr, ℕ, ◌+◌, ◌-◌, ◌<◌, ◌≤◌, List, [], ◌∷◌, ◌++◌, length, get_or, take, position, Some, None, Result, Ok, Err, refl, sym, ap, ◌∙◌, arith, zero-add, add-zero, suc}
 use Rattle.std.specs.List.{AllByRecursion, enumerate_from, zip}
 use Rattle.std.specs.Str.{bytes_eq}
 use Rattle.std.proofs.lemmas.Bool.{eq-eqb}
@@ -11,13 +11,13 @@ use Rattle.std.proofs.lemmas.Slice.Zip.{all_zipped_more, get_or-zip, length-zip}
 use Rattle.xf_base.specs.Schema.{IsCellOf, IsRowOf}
 use Rattle.xf_base.specs.declared.cell.Cell.{Cell}
 use Rattle.xf_base.specs.declared.column.Column.{Column}
-use Rattle.xf_load.specs.EachOk.{◌>>=◌, each_ok}
+use Rattle.xf_load.specs.Fallible.{◌>>=◌, each_ok}
 use Rattle.xf_load.specs.Load.{cell_at, first_rows, loaded_of, place_of, places_of, row_of, rows_of}
 use Rattle.xf_load.specs.Records.{records_of}
 use Rattle.std.specs.Result.{result_map_both}
 use Rattle.xf_load.specs.declared.load.Loaded.{Loaded}
 use Rattle.xf_load.specs.declared.load.LoadRefusal.{LoadRefusal}
-use Rattle.xf_load.specs.declared.load.LoadRefusal.TheVariants.{MissingColumn, NoHeader, OutOfMemory}
+use Rattle.xf_load.specs.declared.load.LoadRefusal.TheVariants.{MissingColumn, OutOfMemory}
 
 -- an element with its number
 pub numbered-at : {X : Type 0} (xs : List X) (i : ℕ) (x : X) → i < length xs → x ≡ get_or xs i x → (i, x) ≡ get_or (enumerate_from 0 xs) i (i, x)
@@ -115,16 +115,6 @@ loaded_from-kept row limit rows count fields before after cells next is within =
     let left : limit - count ≡ suc (limit - (count + 1)) = omega arith in
     rw left (sym (append_assoc rows (cells ∷ []) (take (limit - (count + 1)) more))))
 
--- one past the limit
-pub loaded_from-passed : (row : ℕ × List (List ℕ) → Result (List Cell) LoadRefusal) (limit : ℕ) (rows : List (List Cell)) (count : ℕ) (fields : List (List ℕ)) (before after : List (List (List ℕ))) (cells : List Cell)
-    → before ≡ fields ∷ after → row (count + 1, fields) ≡ Ok cells → limit < count + 1 → loaded_from row limit rows count before ≡ loaded_from row limit rows (count + 1) after
-loaded_from-passed row limit rows count fields before after cells next is past =
-    ap (loaded_from row limit rows count) next
-    ∙ loaded_from-more row limit rows rows count fields after cells is (λ more.
-    let none : limit - count ≡ 0 = omega arith in
-    let still : limit - (count + 1) ≡ 0 = omega arith in
-    rw (none, still) refl)
-
 -- what holds of each of a list and of one more
 pub all-push : {X : Type 0} (P : X → Type 0) (xs : List X) (x : X) → AllByRecursion P xs → P x → AllByRecursion P (xs ++ x ∷ [])
 all-push P [] x all here = (here, tt)
@@ -135,15 +125,6 @@ pub loaded_of-header : (schema columns : List Column) (bytes : List ℕ) (limit 
     → records_of bytes ≡ header ∷ records → places_of columns header ≡ Ok places → loaded_from (row_of columns shown width) limit [] 0 records ≡ loaded_of schema bytes limit
 loaded_of-header schema columns bytes limit header records places shown width same are wide is placed =
     rw (are, wide) (loaded_from-start (row_of columns places (length header)) limit records ∙ sym (rw (← same, is, placed) refl))
-
--- a file whose header lacks a column
-pub loaded_of-missing : (columns : List Column) (bytes : List ℕ) (limit : ℕ) (header : List (List ℕ)) (records : List (List (List ℕ))) (refusal : LoadRefusal) → records_of bytes ≡ header ∷ records → places_of columns header ≡ Err refusal
-    → loaded_of columns bytes limit ≡ Err refusal
-loaded_of-missing columns bytes limit header records refusal is missing = rw (is, missing) refl
-
--- a file without a record
-pub loaded_of-none : (columns : List Column) (bytes : List ℕ) (limit : ℕ) → records_of bytes ≡ [] → loaded_of columns bytes limit ≡ Err NoHeader
-loaded_of-none columns bytes limit none = rw none refl
 
 kept-all : (limit : ℕ) (all : Result (List (List Cell)) LoadRefusal) (whole : Loaded) → result_map_both (first_rows limit) (λ refusal. refusal) all ≡ Ok whole → whole.count ≤ limit → all ≡ Ok whole.rows
 kept-all limit (Ok rows) whole is within =

@@ -1,13 +1,12 @@
 -- The tags of a field: the distinct pieces in order are what a sort and a `dedup` leave, and a cell of a column of tags.
-use Rattle.std.proofs.Common.{◌≡◌, ◌⊎◌, inl, inr, ℕ, ◌+◌, ◌-◌, ◌≤◌, ◌==◌, nat_lt, not, Bool, true, false, ◌||◌, cond, List, [], ◌∷◌, length, filter, map, sum_by, Bor, Result, Ok, Err, IfOk, refl, sym, ap, subst, ◌∙◌, arith, rules, tests, IsPermutation, nat_cmp}
+use Rattle.std.proofs.Common.{◌≡◌, ◌⊎◌, inl, inr, ℕ, ◌+◌, ◌-◌, ◌≤◌, ◌==◌, nat_lt, not, Bool, true, false, ◌||◌, cond, List, [], ◌∷◌, length, filter, map, sum_by, Bor, Result, Ok, Err, IfOk, refl, sym, ap, subst, ◌∙◌, arith, rules, tests, IsPermutation}
 use Rattle.std.specs.List.{AllByRecursion, dedup, dedup_from, list_any, onto_first, slice_split}
-use Rattle.std.specs.Result.{result_map_both}
 use Rattle.std.specs.List.Retain.{DiffersFromLast, IsFiltered}
 use Rattle.std.specs.List.Sorted.{IsSorted, IsStrictlySortedBy}
-use Rattle.std.specs.Cmp.{IsTotalOrder, on_total}
-use Rattle.std.specs.Cmp.Lexicographic.{nat_list_cmp_total, pointwise, slice_cmp, texts_ties}
+use Rattle.std.specs.Cmp.{on_total}
+use Rattle.std.specs.Cmp.Lexicographic.{nat_list_cmp_total, pointwise, texts_ties}
 use Rattle.std.specs.FinMap.{nat_cmp-IsAntisymmetric, slice_cmp-IsAntisymmetric}
-use Rattle.std.specs.Ordering.{eq_by_cmp, is_eq, is_lt}
+use Rattle.std.specs.Ordering.{is_eq, is_lt}
 use Rattle.std.specs.declared.cmp.Ordering.{Ordering}
 use Rattle.std.specs.declared.cmp.Ordering.TheVariants.{Less, Equal, Greater}
 use Rattle.std.proofs.lemmas.Cmp.{alike_right}
@@ -22,6 +21,7 @@ use Rattle.xf_base.specs.declared.cell.Cell.{Cell}
 use Rattle.xf_base.specs.declared.cell.Cell.TheVariants as cell
 use Rattle.xf_base.specs.declared.column.ColumnKind.TheVariants as kind
 use Rattle.xf_base.specs.declared.limits.TheConstants.Limits.{CELL_BYTES, CELL_VALUES}
+use Rattle.xf_load.specs.Fallible.{map_err}
 use Rattle.xf_load.specs.Cell.{pieces_of, tags_cell, tags_of}
 use Rattle.xf_load.specs.declared.cell.CellRefusal.{CellRefusal}
 use Rattle.xf_load.specs.declared.cell.CellRefusal.TheVariants.{TextTooLong, TooManyTags}
@@ -169,7 +169,7 @@ tags_cell-is separator field value h = go (nat_lt CELL_BYTES (length field)) (na
         subst (IsCellOf (kind.Tags separator)) same (few, omega (arith, tags-fit separator field), sorted-distinct_keys nat_list_cmp_total (pieces_of separator field))
 
 -- and so is what the reading of it answers
-pub tags-answer : (separator : ℕ) (field : List ℕ) (answer : Result Cell ReadCellFault) → (answer ≡ Err fault.OutOfMemory) ⊎ (answer ≡ result_map_both (λ c. c) fault.Bad (tags_cell separator field)) → IfOk answer (IsCellOf (kind.Tags separator))
+pub tags-answer : (separator : ℕ) (field : List ℕ) (answer : Result Cell ReadCellFault) → (answer ≡ Err fault.OutOfMemory) ⊎ (answer ≡ map_err fault.Bad (tags_cell separator field)) → IfOk answer (IsCellOf (kind.Tags separator))
 tags-answer separator field answer (inl none) = rw none tt
 tags-answer separator field answer (inr told) = go (tags_cell separator field) refl
   where

@@ -1,5 +1,5 @@
 -- What a field means as a cell of its column, or why it is refused.
-use Rattle.std.specs.Prelude.{ℕ, ◌<◌, ◌==◌, nat_lt, not, if◌then◌else◌, ℤ, List, length, filter, Result, Ok, Err, ⊤}
+use Rattle.std.specs.Prelude.{ℕ, ◌<◌, ◌==◌, nat_lt, not, if◌then◌else◌, List, length, filter, Result, Ok, Err, ⊤}
 use Rattle.std.specs.List.{list_all, slice_split}
 use Rattle.std.specs.Option.{option_map_or}
 use Rattle.std.specs.Result.{result_map_both}

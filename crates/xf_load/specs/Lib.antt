@@ -1,5 +1,5 @@
 pub mod Cell
-pub mod EachOk
+pub mod Fallible
 pub mod Load
 pub mod Records
 pub mod RecordsAhead

@@ -1,5 +1,5 @@
 -- What a CSV file means as rows of a schema, or why it is refused.
-use Rattle.std.specs.Prelude.{ℕ, ◌==◌, if◌then◌else◌, List, [], ◌∷◌, length, take, position, unwrap_or, slice_get, Result, Ok, Err}
+use Rattle.std.specs.Prelude.{ℕ, ◌==◌, if◌then◌else◌, List, [], ◌∷◌, length, take, position, unwrap_or, slice_get, Result, Err}
 use Rattle.std.specs.List.{enumerate_from, zip}
 use Rattle.std.specs.Option.{ok_or}
 use Rattle.std.specs.Result.{result_map_both}
@@ -7,7 +7,7 @@ use Rattle.std.specs.Str.{bytes_eq}
 use Rattle.xf_base.specs.declared.cell.Cell.{Cell}
 use Rattle.xf_base.specs.declared.column.Column.{Column}
 use Rattle.xf_load.specs.Cell.{cell_of}
-use Rattle.xf_load.specs.EachOk.{◌>>=◌, each_ok}
+use Rattle.xf_load.specs.Fallible.{◌>>=◌, each_ok, map_err}
 use Rattle.xf_load.specs.Records.{records_of}
 use Rattle.xf_load.specs.declared.load.LoadRefusal.{LoadRefusal}
 use Rattle.xf_load.specs.declared.load.LoadRefusal.TheVariants.{NoHeader, MissingColumn, UnevenRecord, BadCell}
@@ -23,7 +23,7 @@ places_of columns header = each_ok (place_of header) (enumerate_from 0 columns)
 -- the cell of a column, whose field stands at this place of a record
 abbrev pub cell_at : ℕ → List (List ℕ) → ℕ × (Column × ℕ) → Result Cell LoadRefusal
 cell_at number fields (index, (column, place)) =
-    result_map_both (λ cell. cell) (BadCell number index) (cell_of column (unwrap_or (slice_get fields place) []))
+    map_err (BadCell number index) (cell_of column (unwrap_or (slice_get fields place) []))
 
 -- the row of a record: it has as many fields as the header, and a cell for each column
 abbrev pub row_of : List Column → List ℕ → ℕ → ℕ × List (List ℕ) → Result (List Cell) LoadRefusal
@@ -32,14 +32,14 @@ row_of columns places width (number, fields) =
     else Err (UnevenRecord number)
 
 -- the rows of the records after a header, numbered from 1
-abbrev pub rows_below : List Column → List (List ℕ) → List (List (List ℕ)) → Result (List (List Cell)) LoadRefusal
-rows_below columns header records = do
+abbrev pub rows_after : List Column → List (List ℕ) → List (List (List ℕ)) → Result (List (List Cell)) LoadRefusal
+rows_after columns header records = do
   places ← places_of columns header
   each_ok (row_of columns places (length header)) (enumerate_from 1 records)
 
 abbrev pub rows_of_records : List Column → List (List (List ℕ)) → Result (List (List Cell)) LoadRefusal
 rows_of_records columns [] = Err NoHeader
-rows_of_records columns (header ∷ records) = rows_below columns header records
+rows_of_records columns (header ∷ records) = rows_after columns header records
 
 -- the rows of a file
 abbrev pub rows_of : List Column → List ℕ → Result (List (List Cell)) LoadRefusal

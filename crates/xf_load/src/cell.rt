@@ -1,9 +1,9 @@
 //! Cells of a file: what a field means under its column.
-ghost use Rattle.std.specs.Prelude.{◌≡◌, ◌⊎◌, ◌<◌, Err, IfOk};
+ghost use Rattle.std.specs.Prelude.{◌≡◌, ◌⊎◌, ◌<◌, Err, IfOk, IfSome};
 ghost use Rattle.std.specs.List.{list_all};
-ghost use Rattle.std.specs.Result.{result_map_both};
 ghost use Rattle.xf_base.specs.Fixed.{is_blank};
 ghost use Rattle.xf_base.specs.Schema.{IsCellOf, IsColumn};
+ghost use Rattle.xf_load.specs.Fallible.{map_err};
 ghost use Rattle.xf_load.specs.Cell.{HasAsciiSeparator, cell_of, cell_of_kind, date_refusal, day_cell, number_cell, number_refusal, text_cell};
 
 use crate::tags::read_tags;
@@ -14,8 +14,9 @@ use xf_base::{
     read_fixed,
 };
 
-/// Why a field is no cell of its column. The first that holds, in this order; the first five of a number, the next two
-/// of a date.
+/// Why a field is no cell of its column. The first that holds, in this order: `NotUtf8` of every kind of column, `Empty` of
+/// numbers and dates, the next three of numbers, the next two of dates, `TextTooLong` of texts and tags, `TooManyTags` of
+/// tags.
 #[derive(Clone, Copy, Debug, PartialEq, Eq, Error)]
 pub enum CellRefusal {
     /// The field is not UTF-8.
@@ -73,22 +74,38 @@ impl From<OutOfMemory> for ReadCellFault {
 pub fn read_cell(alloc: Global, column: &Column, field: &[u8]) -> Result<Cell, ReadCellFault>
     requires { HasAsciiSeparator column.now.kind }
     ensures cell { (result ≡ Err ReadCellFault.OutOfMemory)
-        ⊎ (result ≡ result_map_both (λ cell. cell) ReadCellFault.Bad (cell_of column.now field.now)) }
+        ⊎ (result ≡ map_err ReadCellFault.Bad (cell_of column.now field.now)) }
     ensures of_column { IsColumn column.now → IfOk result (IsCellOf column.now.kind) }
 {
+    if let Some(number) = plain_number(column, field) {
+        return Ok(Cell::Num(number));
+    }
     let Ok(text) = str::from_utf8(field) else {
         return Err(ReadCellFault::Bad(CellRefusal::NotUtf8));
     };
     if let Some(blank) = &column.blank
-        && is_blank(field)
+        && is_all_blanks(field)
     {
         return Ok(blank.copy(alloc)?);
     }
     read_kind(alloc, column.kind, text)
 }
 
+/// The number of a field in a column of numbers, if it is one. A number is UTF-8 and not blank, so that most fields are
+/// looked at once.
+fn plain_number(column: &Column, field: &[u8]) -> Option<i64>
+    ensures cell { IfSome result (λ number. cell_of column.now field.now ≡ Ok (Cell.Num number)) }
+    ensures of_kind { IfSome result (λ number. IsCellOf column.now.kind (Cell.Num number)) }
+{
+    match column.kind {
+        ColumnKind::Int => read_fixed(field, 0).ok(),
+        ColumnKind::Fixed(decimals) => read_fixed(field, decimals).ok(),
+        _ => None,
+    }
+}
+
 /// Whether a field is nothing but blanks.
-fn is_blank(field: &[u8]) -> bool
+fn is_all_blanks(field: &[u8]) -> bool
     ensures { result ≡ list_all is_blank field.now }
 {
     field.iter().all(|byte| *byte == b' ')
@@ -99,7 +116,7 @@ fn read_kind(alloc: Global, kind: ColumnKind, text: &str) -> Result<Cell, ReadCe
     requires { HasAsciiSeparator kind }
     ensures of_kind { IfOk result (IsCellOf kind) }
     ensures cell { (result ≡ Err ReadCellFault.OutOfMemory)
-        ⊎ (result ≡ result_map_both (λ cell. cell) ReadCellFault.Bad (cell_of_kind kind text.now)) }
+        ⊎ (result ≡ map_err ReadCellFault.Bad (cell_of_kind kind text.now)) }
 {
     match kind {
         ColumnKind::Int => read_number(text, 0),
@@ -111,7 +128,7 @@ fn read_kind(alloc: Global, kind: ColumnKind, text: &str) -> Result<Cell, ReadCe
 }
 
 fn read_number(text: &str, decimals: u8) -> Result<Cell, ReadCellFault>
-    ensures { result ≡ result_map_both (λ cell. cell) ReadCellFault.Bad (number_cell text.now decimals) }
+    ensures { result ≡ map_err ReadCellFault.Bad (number_cell text.now decimals) }
 {
     match read_fixed(text.as_bytes(), decimals) {
         Ok(number) => Ok(Cell::Num(number)),
@@ -131,7 +148,7 @@ fn number_refusal(refusal: NumberRefusal) -> CellRefusal
 }
 
 fn read_day(text: &str) -> Result<Cell, ReadCellFault>
-    ensures cell { result ≡ result_map_both (λ cell. cell) ReadCellFault.Bad (day_cell text.now) }
+    ensures cell { result ≡ map_err ReadCellFault.Bad (day_cell text.now) }
     ensures of_kind { IfOk result (IsCellOf ColumnKind.Date) }
 {
     if is_blank(text.as_bytes()) {
@@ -154,7 +171,7 @@ fn date_refusal(refusal: DateRefusal) -> CellRefusal
 
 fn read_text(alloc: Global, text: &str) -> Result<Cell, ReadCellFault>
     ensures { (result ≡ Err ReadCellFault.OutOfMemory)
-        ⊎ (result ≡ result_map_both (λ cell. cell) ReadCellFault.Bad (text_cell text.now)) }
+        ⊎ (result ≡ map_err ReadCellFault.Bad (text_cell text.now)) }
 {
     if text.len() as u64 > Limits::CELL_BYTES {
         return Err(ReadCellFault::Bad(CellRefusal::TextTooLong));

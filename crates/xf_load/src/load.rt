@@ -22,10 +22,14 @@ pub enum LoadRefusal {
     NoHeader,
     /// The header lacks the name of this column of the schema, numbered from 0; the first of those that it lacks.
     #[error("missing column {column}")]
-    MissingColumn { column: u64 },
+    MissingColumn {
+        column: u64,
+    },
     /// A record, numbered from 1 after the header, has another number of fields than the header.
     #[error("uneven record {number}")]
-    UnevenRecord { number: u64 },
+    UnevenRecord {
+        number: u64,
+    },
     /// A field of a record, numbered from 1 after the header, is no cell of this column of the schema, numbered from 0.
     #[error("bad cell {number} {column} {why}")]
     BadCell {

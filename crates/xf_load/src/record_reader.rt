@@ -33,7 +33,9 @@ impl<'a> RecordReader<'a> {
     pub fn new(alloc: Global, bytes: &'a [u8]) -> Result<RecordReader<'a>, OutOfMemory>
         ensures { IfOk result (λ reader. reader ≡ records_of bytes.now) }
     {
-        let mut reader = ReaderBuilder::new().flexible(true).from_reader(alloc, bytes);
+        let mut reader = ReaderBuilder::new()
+            .flexible(true)
+            .from_reader(alloc, bytes);
         // With a header set, the reader keeps no copies of the first record.
         if reader.set_byte_headers(ByteRecord::new(alloc)).is_err() {
             return Err(OutOfMemory);
@@ -47,7 +49,8 @@ impl<'a> RecordReader<'a> {
     /// Reads the next record into `fields`, and says whether there was one. Bytes in memory do not fail, and records
     /// may have any length, so that memory alone can be wanting; no records come after that.
     pub fn read(&mut self, fields: &mut ByteRecord) -> Result<bool, OutOfMemory>
-        ensures read { IfOk result (λ found. MatchBool found (self.old ≡ fields_of fields.new ∷ self.new) ((self.old ≡ []) × (self.new ≡ []))) }
+        ensures read { IfOk result (λ found.
+            MatchBool found (self.old ≡ fields_of fields.new ∷ self.new) ((self.old ≡ []) × (self.new ≡ []))) }
         ensures err { OnErr result (self.new ≡ []) }
     {
         if self.has_ended {

@@ -1,7 +1,7 @@
 //! Tags: the distinct pieces of a field, in order.
 ghost use Rattle.std.specs.Prelude.{◌≡◌, ◌⊎◌, ◌<◌, map, Err, IfOk};
-ghost use Rattle.std.specs.Result.{result_map_both};
 ghost use Rattle.xf_base.specs.Key.{text_cmp};
+ghost use Rattle.xf_load.specs.Fallible.{map_err};
 ghost use Rattle.xf_load.specs.Cell.{pieces_of, tags_cell};
 ghost use Rattle.xf_model.specs.Group.{distinct_keys};
 
@@ -13,7 +13,7 @@ use xf_base::{Cell, Limits, OutOfMemory, Text, TextList};
 pub(crate) fn read_tags(alloc: Global, separator: u8, text: &str) -> Result<Cell, ReadCellFault>
     requires { separator < 128 }
     ensures { (result ≡ Err ReadCellFault.OutOfMemory)
-        ⊎ (result ≡ result_map_both (λ cell. cell) ReadCellFault.Bad (tags_cell separator text.now)) }
+        ⊎ (result ≡ map_err ReadCellFault.Bad (tags_cell separator text.now)) }
 {
     if text.len() as u64 > Limits::CELL_BYTES {
         return Err(ReadCellFault::Bad(CellRefusal::TextTooLong));
@@ -31,10 +31,11 @@ fn pieces_of(alloc: Global, separator: u8, text: &str) -> Result<Vec<&str>, OutO
     requires { separator < 128 }
     ensures { IfOk result (λ pieces. map (λ piece. piece.now) pieces.items ≡ pieces_of separator text.now) }
 {
-    Ok(text
-        .split(char::from(separator))
-        .filter(|piece| !piece.is_empty())
-        .collect(alloc)?)
+    Ok(
+        text.split(char::from(separator))
+            .filter(|piece| !piece.is_empty())
+            .collect(alloc)?,
+    )
 }
 
 /// Puts texts in the order of their bytes, and drops those that are there already.

@@ -1,18 +1,32 @@
 //! What no clause says: what fields and files mean, by values written by hand.
-use crate::{LoadRefusal, records_of};
-use std::test::Fail;
-use xf_base::{Column, ColumnKind, Schema, Text};
+mod cell;
+mod file;
+mod record;
 
-#[test]
-fn reads_files(rt: HostRuntime) -> Result<(), Fail> {
-    let mut schema = Schema::new(rt.alloc());
-    schema.push(Column {
-        name: Text::of(rt.alloc(), "a")?,
-        kind: ColumnKind::Int,
-        blank: None,
-    })?;
-    let rows = records_of(rt.alloc(), &schema, b"a,b\n1,2\n3,4\n")?;
-    assert_eq!(rt; rows.len(), 2);
-    assert_eq!(rt; records_of(rt.alloc(), &schema, b"b\n1\n").err(), Some(LoadRefusal::MissingColumn { column: 0 }));
-    Ok(())
+use std::alloc::Global;
+use std::fmt::Write;
+use std::test::Fail;
+use xf_base::{Cell, Text, TextList};
+
+/// A cell as a case of a table has it: a number, a text between bars, tags each between bars.
+fn shown(alloc: Global, cell: &Cell) -> Result<String, Fail> {
+    let mut text = String::new(alloc);
+    match cell {
+        Cell::Num(number) => write!(text, "{number}")?,
+        Cell::Text(own) => write!(text, "|{}|", own.as_str())?,
+        Cell::Tags(tags) => {
+            text.push_str("tags")?;
+            for tag in tags.as_slice() {
+                write!(text, "|{}|", tag.as_str())?;
+            }
+        }
+    }
+    Ok(text)
+}
+
+/// A cell of one tag.
+fn one_tag(alloc: Global, tag: &str) -> Result<Cell, Fail> {
+    let mut tags = TextList::new(alloc);
+    tags.push(Text::of(alloc, tag)?)?;
+    Ok(Cell::Tags(tags))
 }

@@ -46,6 +46,7 @@ impl<W: Write> CountedOutput<W> {
         ensures bytes { WriteAppends (W.contents self.old.writer) (W.contents self.new.writer) result text.now }
         ensures taken { IfOk result (λ count. self.new.taken ≡ count_after self.old.taken count) }
         ensures untaken { OnErr result (self.new.taken ≡ self.old.taken) }
+        ensures unflushed { self.new.is_flushed ≡ false }
         ensures faults { CountsError result self.old.faults self.new.faults }
         ensures failed { IsOkUnless result PutFault.Failed }
         ensures caused { IsErrOf result PutFault.Failed → IsSome self.new.failure }

@@ -1,5 +1,5 @@
 -- The first field that is the name ends the search.
-use Rattle.std.proofs.Common.{◌∙◌, [], sym, arith}
+use Rattle.std.proofs.Common.{[], sym, arith}
 use borrow.Author.Count.{below_more}
 use Rattle.std.specs.Str.{bytes_eq}
 use Rattle.csv.specs.Records.{fields_of}

@@ -3,10 +3,9 @@ use Rattle.std.proofs.Common.{◌∙◌, ◌<◌, inr, length, sym, ap, Ok, arit
 use Rattle.std.specs.List.{enumerate_from}
 use Rattle.std.proofs.lemmas.List.FromFn.{length-enumerate_from}
 use Rattle.csv.specs.Records.{fields_of}
-use Rattle.xf_base.specs.declared.column.Column.{Column}
 use Rattle.xf_load.specs.Load.{place_of}
 use Rattle.xf_load.specs.declared.load.LoadRefusal.TheVariants.{MissingColumn}
-use Rattle.xf_load.proofs.EachOkFacts.{IsReadTo-all, IsReadTo-more, IsReadTo-refused}
+use Rattle.xf_load.proofs.FallibleFacts.{IsReadTo-all, IsReadTo-more, IsReadTo-refused}
 use Rattle.xf_load.proofs.LoadFacts.{numbered-at, place_of-found, place_of-missing}
 use Rattle.xf_load.proofs.load.places_of.Goals as goal
 

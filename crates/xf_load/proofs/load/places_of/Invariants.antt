@@ -2,7 +2,7 @@
 use Rattle.std.specs.List.{enumerate_from}
 use Rattle.csv.specs.Records.{fields_of}
 use Rattle.xf_load.specs.Load.{place_of}
-use Rattle.xf_load.proofs.EachOkFacts.{IsReadTo}
+use Rattle.xf_load.proofs.FallibleFacts.{IsReadTo}
 use Rattle.xf_load.proofs.load.places_of.Given as goal
 
 abbrev pub invariant-loop-index : goal.invariant-loop-index

@@ -1,5 +1,5 @@
 -- No file has as many rows as the limit.
-use Rattle.std.proofs.Common.{◌≤◌, ◌-◌, ◌^◌, ap, inr, sym, Ok, rules, arith}
+use Rattle.std.proofs.Common.{◌≤◌, ◌-◌, ◌^◌, inr, sym, rules}
 use Rattle.xf_load.proofs.LoadFacts.{rows_of-loaded}
 use Rattle.xf_load.proofs.load.records_of.Goals as goal
 

@@ -1,15 +1,14 @@
 -- Each record gives its row, or the first refusal.
-use Rattle.std.proofs.Common.{◌≡◌, ◌∙◌, ◌+◌, ◌<◌, ◌≤◌, ◌^◌, [], ◌∷◌, length, inr, sym, ap, Ok, Err, arith, rules}
+use Rattle.std.proofs.Common.{◌∙◌, ◌+◌, ◌<◌, ◌^◌, length, inr, sym, ap, Err, arith, rules}
 use Rattle.std.specs.List.{enumerate_from}
 use Rattle.std.proofs.lemmas.List.FromFn.{length-enumerate_from}
 use Rattle.std.proofs.lemmas.Result.{err_from_is_err_and}
 use Rattle.csv.specs.Records.{fields_of}
 use Rattle.xf_base.specs.Schema.{IsRowOf}
 use Rattle.xf_load.specs.Load.{place_of, places_of, row_of}
-use Rattle.xf_load.specs.Records.{records_of}
 use Rattle.xf_load.proofs.CsvRecords.{records_of-length}
-use Rattle.xf_load.proofs.EachOkFacts.{each_ok-length}
-use Rattle.xf_load.proofs.LoadFacts.{Tells-Err, Tells-Ok, all-push, loaded_from-end, loaded_from-kept, loaded_from-passed, loaded_from-refused, loaded_of-header}
+use Rattle.xf_load.proofs.FallibleFacts.{each_ok-length}
+use Rattle.xf_load.proofs.LoadFacts.{Tells-Err, Tells-Ok, all-push, loaded_from-end, loaded_from-kept, loaded_from-refused, loaded_of-header}
 use Rattle.xf_load.proofs.load.records_within.Goals as goal
 
 pub overflow_add-count : goal.overflow_add-count

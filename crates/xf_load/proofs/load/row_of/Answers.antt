@@ -1,5 +1,5 @@
 -- Each column gives its cell, or the first refusal.
-use Rattle.std.proofs.Common.{◌≡◌, ◌⊎◌, ◌∙◌, inl, inr, ℕ, ◌+◌, ◌<◌, length, get_or, min, refl, sym, ap, Ok, Err, arith, rules}
+use Rattle.std.proofs.Common.{◌≡◌, ◌∙◌, inr, ◌+◌, length, sym, ap, Ok, Err, arith, rules}
 use Rattle.std.specs.List.{enumerate_from, zip}
 use Rattle.std.specs.Iterator.Adapters.{zip_first, zip_second}
 use Rattle.std.specs.Slice.Iter.{iter_rest}
@@ -8,9 +8,9 @@ use Rattle.std.proofs.lemmas.List.FromFn.{length-enumerate_from}
 use Rattle.std.proofs.lemmas.Result.{err_from_is_err_and}
 use Rattle.std.proofs.lemmas.Slice.Zip.{length-zip, zip_end, zip_turn}
 use Rattle.csv.specs.Records.{fields_of}
-use Rattle.xf_load.specs.EachOk.{each_ok}
+use Rattle.xf_load.specs.Fallible.{each_ok}
 use Rattle.xf_load.specs.Load.{cell_at}
-use Rattle.xf_load.proofs.EachOkFacts.{IsReadTo-all, IsReadTo-more, IsReadTo-refused}
+use Rattle.xf_load.proofs.FallibleFacts.{IsReadTo-all, IsReadTo-more, IsReadTo-refused}
 use Rattle.xf_load.proofs.LoadFacts.{IsRowOf-more, Tells-Err, Tells-Ok, placed-at, row_of-even}
 use Rattle.xf_load.proofs.load.row_of.Goals as goal
 
@@ -57,7 +57,7 @@ returns-in_err-cell-clause-row c =
     (λ is. IsReadTo-refused (cell_at c.args.number fields) (enumerate_from 0 (zip columns places)) c.loop-column.cells.items n (n, (column, place)) refusal placed.0 placed.1 is c.loop-column.invariant.read))
 
 pub returns-clause-row : goal.returns-clause-row
-returns-clause-row c = 
+returns-clause-row c =
     let columns = c.args.columns.now in
     let places = c.args.places.now in
     let fields = fields_of c.args.record.now in

@@ -1,10 +1,10 @@
 -- The cells are those of the columns so far, and cells of these columns.
 use Rattle.std.proofs.Common.{◌≡◌, length, take, vec_len}
-use Rattle.std.specs.List.{AllZip, enumerate_from, zip}
+use Rattle.std.specs.List.{enumerate_from, zip}
 use Rattle.csv.specs.Records.{fields_of}
-use Rattle.xf_base.specs.Schema.{IsCellOf, IsRowOf}
+use Rattle.xf_base.specs.Schema.{IsRowOf}
 use Rattle.xf_load.specs.Load.{cell_at}
-use Rattle.xf_load.proofs.EachOkFacts.{IsReadTo}
+use Rattle.xf_load.proofs.FallibleFacts.{IsReadTo}
 use Rattle.xf_load.proofs.load.row_of.Given as goal
 
 abbrev pub invariant-loop-column : goal.invariant-loop-column

@@ -1,5 +1,5 @@
 -- A read that found a record takes the first of those ahead; a read that found none stood at the end.
-use Rattle.std.proofs.Common.{◌∙◌, ℕ, List, [], ◌∷◌, Option, Some, cond, Bor, refl, sym, ap}
+use Rattle.std.proofs.Common.{◌∙◌, ℕ, List, [], Option, Some, cond, Bor, refl, sym, ap}
 use Rattle.csv.specs.Records.{fields_of}
 use Rattle.xf_load.specs.RecordsAhead.{records_ahead}
 use Rattle.xf_load.proofs.CsvRecords.{took-found, took-missing}

@@ -2,7 +2,7 @@
 use Rattle.std.proofs.Common.{◌≡◌, ℕ, ◌+◌, ◌<◌, ◌≤◌, List, [], ◌∷◌, ◌++◌, length, get_or, drop, Result, Ok, Err, refl, sym, ap, ◌∙◌, arith}
 use Rattle.std.specs.Result.{result_map_both}
 use Rattle.std.proofs.lemmas.List.{append-nil, append_assoc, drop_all, drop_more}
-use Rattle.xf_load.specs.EachOk.{◌>>=◌, each_ok}
+use Rattle.xf_load.specs.Fallible.{◌>>=◌, each_ok}
 
 -- the values of the rest after those of the front
 abbrev pub after : {Y E : Type 0} → List Y → Result (List Y) E → Result (List Y) E
@@ -11,14 +11,6 @@ after front rest = result_map_both (λ values. front ++ values) (λ refusal. ref
 -- where a list is read as far as `front`, what is left gives the values after these
 abbrev pub IsReadTo : {X Y E : Type 0} → (X → Result Y E) → List X → List Y → ℕ → Type 0
 IsReadTo value_of xs front n = each_ok value_of xs ≡ after front (each_ok value_of (drop n xs))
-
-after-none : {Y E : Type 0} (rest : Result (List Y) E) → after [] rest ≡ rest
-after-none (Ok values) = refl
-after-none (Err refusal) = refl
-
--- nothing is read at first
-pub IsReadTo-none : {X Y E : Type 0} (value_of : X → Result Y E) (xs : List X) → IsReadTo value_of xs [] 0
-IsReadTo-none value_of xs = sym (after-none (each_ok value_of xs))
 
 after-push : {Y E : Type 0} (front : List Y) (value : Y) (rest : Result (List Y) E) → after front (rest >>= (λ values. Ok (value ∷ values))) ≡ after (front ++ value ∷ []) rest
 after-push front value (Ok values) = ap Ok (sym (append_assoc front (value ∷ []) values))
