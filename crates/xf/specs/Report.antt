@@ -1,8 +1,26 @@
 -- What a person is told on standard error.
-use Rattle.std.specs.Prelude.{ℕ, Bool, true, false, List, [], ◌∷◌, ◌++◌, codes}
+use Rattle.std.specs.Prelude.{ℕ, Bool, true, false, List, [], ◌∷◌, ◌++◌, codes, Option, Some, None}
 use Rattle.xf_app.specs.declared.status.Status.{Status}
 use Rattle.xf_app.specs.declared.status.Status.TheVariants as status
 use Rattle.xf_base.specs.Word.{word_text}
+
+-- the name of the file that was not fetched, where memory held it; that of the board where each file was fetched
+abbrev pub unfetched_name : List ℕ → Option (Option (List ℕ)) → List ℕ
+unfetched_name board None = board
+unfetched_name board (Some None) = codes "file"
+unfetched_name board (Some (Some name)) = name
+
+-- the name of the file at which a run ended, by the fetch that gave no bytes, if there was one
+abbrev pub reported_name : Status → List ℕ → Option (Option (List ℕ)) → List ℕ
+reported_name status.Done board fetch = unfetched_name board fetch
+reported_name status.DoneWithRefusals board fetch = unfetched_name board fetch
+reported_name status.Usage board fetch = unfetched_name board fetch
+reported_name status.BoardRefused board fetch = board
+reported_name status.ReadFault board fetch = unfetched_name board fetch
+reported_name status.WriteFault board fetch = unfetched_name board fetch
+reported_name status.Memory board fetch = unfetched_name board fetch
+reported_name status.Absent board fetch = unfetched_name board fetch
+reported_name status.TooLong board fetch = unfetched_name board fetch
 
 -- the name of a file, and what came of it
 abbrev pub caused_line : List ℕ → List ℕ → List ℕ

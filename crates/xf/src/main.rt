@@ -61,7 +61,7 @@ fn tell(rt: &HostRuntime, text: Result<Vec<u8>, OutOfMemory>) {
     };
 }
 
-/// The words behind the program's own name. Where one is not UTF-8 there are none, and so the usage line is written.
+/// The words after the program's own name. Where one is not UTF-8 there are none, and so the usage line is written.
 fn words_of(rt: &HostRuntime) -> Result<Vec<String>, OutOfMemory> {
     match env::args(rt) {
         Ok(words) => Ok(words.skip(1).collect(rt.alloc())?),

@@ -1,6 +1,6 @@
 //! What a person is told on standard error of a run that did not end well.
-ghost use Rattle.std.specs.Prelude.{◌≡◌, ℕ, ◌∷◌, [], ◌++◌, List, codes, IfOk, OnOk};
-ghost use Rattle.xf.specs.Report.{report_line};
+ghost use Rattle.std.specs.Prelude.{◌≡◌, ℕ, ◌∷◌, [], ◌++◌, List, codes, IfOk, OnOk, option_map, string_bytes};
+ghost use Rattle.xf.specs.Report.{report_line, reported_name};
 ghost use Rattle.xf_base.specs.Word.{word_text};
 
 use std::alloc::{AllocError, Global};
@@ -25,7 +25,10 @@ pub fn message(
     fetch: Option<&FetchFailure>,
     put: Option<io::Error>,
 ) -> Result<Vec<u8>, OutOfMemory>
-    ensures { IfOk result (λ text. (name : List ℕ) × (cause : List ℕ) × (text.items ≡ report_line status is_seen name cause)) }
+    // The words of the cause are the system's.
+    ensures {
+        let name = reported_name status board.now (option_map (λ failure. option_map string_bytes failure.name) fetch)
+        in IfOk result (λ text. (cause : List ℕ) × (text.items ≡ report_line status is_seen name cause)) }
 {
     let name = name_of(status, board, fetch);
     let cause = cause_of(alloc, status, fetch, put)?;
@@ -33,13 +36,12 @@ pub fn message(
 }
 
 /// The name of the file at which the run ended.
-fn name_of<'a>(status: Status, board: &'a str, fetch: Option<&'a FetchFailure>) -> &'a str {
-    match fetch {
-        Some(failure) if status != Status::BoardRefused => match &failure.name {
-            Some(name) => name.as_str(),
-            None => "file",
-        },
-        _ => board,
+fn name_of<'a>(status: Status, board: &'a str, fetch: Option<&'a FetchFailure>) -> &'a str
+    ensures { result.now ≡ reported_name status board.now (option_map (λ failure. option_map string_bytes failure.name) fetch) }
+{
+    match (status, fetch) {
+        (Status::BoardRefused, _) | (_, None) => board,
+        (_, Some(failure)) => failure.name.as_ref().map_or("file", String::as_str),
     }
 }
 

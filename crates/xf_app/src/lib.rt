@@ -1,8 +1,9 @@
 //! The program over a depot, a sink and a counter: words, a board, a session, and what is written for them.
 //!
-//! It stands on the engine and on the outside, and reads CSV with the crate `csv`. Its private modules are the layers
-//! that a command passes: `words`, `board`, `script`, `session`, `page`, `replay`, `output`, `program`. Its one promise is the headline
-//! on `run`: what is written after each accepted line is what recomputing from the records and filters gives.
+//! It stands on the engine and on the outside, and takes records and rows from `xf_load`. Its private modules are the
+//! layers that a command passes: `words`, `board`, `script`, `session`, `page`, `replay`, `output`, `program`. Its one
+//! promise is the headline on `run`: what is written after each accepted line is what recomputing from the records and
+//! filters gives.
 #![tactic(auto)]
 
 mod board;

@@ -1,4 +1,4 @@
--- The fields of `Limits` as its numbers, and back.
+-- Only the model of `Limits` and proofs need this file: its fields as its numbers, and back.
 use Rattle.xf_base.specs.Bounds.{Bounds}
 use Rattle.xf_base.specs.declared.limits.Limits.TheInside.{Inside}
 

@@ -1,7 +1,7 @@
 //! The crossfilter. What is kept: the records, in the table, and the range that is set on each column's dimension.
 //! What is computed each time that it is asked for, from these alone: how many records pass, what a new range moves,
-//! and the entries of a group. So nothing that is kept can fall behind.
-ghost use Rattle.std.specs.Prelude.{◌≡◌, ◌⊎◌, ◌<◌, ◌≤◌, [], ◌++◌, length, IfErr, IfOk, OnOk, OnErr, None, Some, replicate, slice_set};
+//! and the entries of a group. So nothing that is kept can be out of date.
+ghost use Rattle.std.specs.Prelude.{◌≡◌, ◌⊎◌, ◌+◌, ◌<◌, ◌≤◌, [], ◌++◌, length, IfErr, IfOk, OnOk, OnErr, None, Some, replicate, slice_set};
 ghost use Rattle.std.specs.List.{AllByRecursion};
 
 use crate::add_refusal::AddRefusal;
@@ -94,7 +94,7 @@ impl Cross {
     }
 
     /// Sets the range from `low` on and below `high` on a dimension, in place of what was set. Gives how many
-    /// records it moves: those for which exactly one of the two holds.
+    /// records it moves: those for which exactly one of the two holds. Costs a step for each record.
     pub fn set_filter<L: Ledger>(
         &mut self,
         dimension: usize,
@@ -105,6 +105,7 @@ impl Cross {
         requires { dimension < length self.old.columns }
         ensures moved { result ≡ moved_count self.old dimension (record { low = low; high = high }) }
         ensures filter { self.new ≡ record self.old { ranges = slice_set self.old.ranges dimension (Some (record { low = low; high = high })) } }
+        ensures cost { steps.new ≡ steps.old + length self.old.rows }
     {
         let new = Range { low, high };
         let rows = self.table.rows(steps);
@@ -120,17 +121,18 @@ impl Cross {
         self.table.len() as u64
     }
 
-    /// How many records pass every dimension, which is the value of the whole that counts.
+    /// How many records pass every dimension, which is the value of the whole that counts. Costs a step for each record.
     pub fn passing_count<L: Ledger>(&self, steps: &mut Steps<L>) -> u64
         ensures passing { result ≡ passing_count self.now }
         ensures whole { result ≡ whole_count self.now }
+        ensures cost { steps.new ≡ steps.old + length self.now.rows }
     {
         let columns = self.schema().len();
         passing_count(self.table.rows(steps).as_slice(), &self.ranges[..columns])
     }
 
     /// The entries of a dimension's group, keys ascending: for each key of a record that is present, how many records
-    /// have it and pass every other dimension.
+    /// have it and pass every other dimension. Costs a step for each record; the sort is not counted.
     pub fn group_all<L: Ledger>(
         &self,
         alloc: Global,
@@ -138,7 +140,8 @@ impl Cross {
         steps: &mut Steps<L>,
     ) -> Result<Vec<KeyNumber>, OutOfMemory>
         requires { dimension < length self.now.columns }
-        ensures { IfOk result (λ v. v.items ≡ key_numbers (entries_of self.now dimension)) }
+        ensures entries { IfOk result (λ v. v.items ≡ key_numbers (entries_of self.now dimension)) }
+        ensures cost { steps.new ≡ steps.old + length self.now.rows }
     {
         let columns = self.schema().len();
         group_rows(
@@ -149,6 +152,7 @@ impl Cross {
         )
     }
 
+    /// The columns, each of which is a dimension.
     pub fn schema(&self) -> &Schema
         ensures { result.now ≡ self.now.columns }
     {

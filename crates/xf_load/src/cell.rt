@@ -151,7 +151,7 @@ fn read_day(text: &str) -> Result<Cell, ReadCellFault>
     ensures cell { result ≡ map_err ReadCellFault.Bad (day_cell text.now) }
     ensures of_kind { IfOk result (IsCellOf ColumnKind.Date) }
 {
-    if is_blank(text.as_bytes()) {
+    if is_all_blanks(text.as_bytes()) {
         return Err(ReadCellFault::Bad(CellRefusal::Empty));
     }
     match read_date(text.as_bytes()) {

@@ -5,7 +5,7 @@ use std::fmt::Write;
 use std::test::Fail;
 use xf_base::Cell;
 
-/// The names and then the rows, each item with a semicolon behind it and each row with a bar in front.
+/// The names and then the rows, each item with a semicolon after it and each row with a bar in front.
 fn shown(alloc: Global, board: &Board) -> Result<String, Fail> {
     let mut text = String::new(alloc);
     for column in board.schema.as_slice() {

@@ -14,7 +14,7 @@ fn drops_one_byte_order_mark(rt: HostRuntime) {
     }
 }
 
-/// The lines of a text, with a bar behind each.
+/// The lines of a text, with a bar after each.
 fn barred_lines(alloc: Global, text: &[u8]) -> Result<Vec<u8>, OutOfMemory> {
     let mut lines = Vec::new(alloc);
     let mut rest = text;
@@ -22,10 +22,10 @@ fn barred_lines(alloc: Global, text: &[u8]) -> Result<Vec<u8>, OutOfMemory> {
         if rest.is_empty() {
             break;
         }
-        let (line, behind) = first_line(rest);
+        let (line, after) = first_line(rest);
         lines.extend_from_slice(line)?;
         lines.push(b'|')?;
-        rest = behind;
+        rest = after;
     }
     Ok(lines)
 }
@@ -48,13 +48,13 @@ fn cuts_a_text_into_lines(rt: HostRuntime) -> Result<(), Fail> {
     Ok(())
 }
 
-/// A line with blanks behind it, up to a number of bytes.
-fn with_zeros(alloc: Global, line: &[u8], bytes: usize) -> Result<Vec<u8>, OutOfMemory> {
-    let mut with_zeros = Vec::from_slice(alloc, line)?;
+/// A line with blanks after it, up to a number of bytes.
+fn with_blanks(alloc: Global, line: &[u8], bytes: usize) -> Result<Vec<u8>, OutOfMemory> {
+    let mut with_blanks = Vec::from_slice(alloc, line)?;
     for _ in line.len()..bytes {
-        with_zeros.push(b' ')?;
+        with_blanks.push(b' ')?;
     }
-    Ok(with_zeros)
+    Ok(with_blanks)
 }
 
 #[test]
@@ -64,8 +64,8 @@ fn reads_commands(rt: HostRuntime) -> Result<(), Fail> {
     let with_sign =
         r#"Filter { dimension: Text { text: "a" }, range: Some(Range { low: -1, high: 7 }) }"#;
     let unread = r#"Filter { dimension: Text { text: "a" }, range: None }"#;
-    let longest = with_zeros(rt.alloc(), b"filter a range 2 3", 65_536)?;
-    let longer = with_zeros(rt.alloc(), b"filter a range 2 3", 65_537)?;
+    let longest = with_blanks(rt.alloc(), b"filter a range 2 3", 65_536)?;
+    let longer = with_blanks(rt.alloc(), b"filter a range 2 3", 65_537)?;
     let cases: [(&[u8], &str); 20] = [
         (b"", "Skip"),
         (b"  ", "Skip"),
