@@ -16,7 +16,7 @@ returns-clause-cell c =
 
 pub returns-2-clause-cell : goal.returns-2-clause-cell
 returns-2-clause-cell c =
-    let read : (c.args.column.now.blank ≡ None) ⊎ (list_all is_blank c.args.field.now ≡ false) = elim c.in_default-2.branch [ in_default-2-via-in-None-1 w ↦ inl (search rules) | in_default-2-via-in-Some-blank+else-is_all_blanks w ↦ inr (sym w.is_blank.ensures ∙ w.if-is_all_blanks.false) ] in
+    let read : (c.args.column.now.blank ≡ None) ⊎ (list_all is_blank c.args.field.now ≡ false) = elim c.in_default-2.branch [ in_default-2-via-in-None-1 w ↦ inl (search rules) | in_default-2-via-in-Some-blank+else-is_all_blanks w ↦ inr (sym w.is_all_blanks.ensures ∙ w.if-is_all_blanks.false) ] in
     rw (cell_of-kind c.args.column.now c.args.field.now c.in-Ok.ensures.cases.1 read, ← c.in-Ok.ensures.cases.0) c.read_kind.ensures.cell
 
 pub returns-2-clause-of_column : goal.returns-2-clause-of_column
