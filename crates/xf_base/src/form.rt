@@ -163,6 +163,7 @@ pub fn key_of_word(alloc: Global, form: &KeyForm, word: &Text) -> Result<Key, Ou
 }
 
 /// What stands before the first `|` and what stands after it; None where a word has none.
+#[tactic(auto, using(crate::proofs::Words::bars))]
 fn split_at_bar(word: &str) -> Option<(&str, &str)>
     ensures bar { is_some result ≡ list_any (λ b. b == 124) word.now }
     ensures first { IfSome result (λ parts. parts.0.now ≡ before_first (λ b. b == 124) word.now) }
