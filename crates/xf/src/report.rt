@@ -27,7 +27,7 @@ pub fn message(
 ) -> Result<Vec<u8>, OutOfMemory>
     // The words of the cause are the system's.
     ensures {
-        let name = reported_name status board.now (option_map (λ failure. option_map string_bytes failure.name) fetch)
+        let name = reported_name status board.now (option_map (λ failure. option_map string_bytes failure.now.name) fetch.entry)
         in IfOk result (λ text. (cause : List ℕ) × (text.items ≡ report_line status is_seen name cause)) }
 {
     let name = name_of(status, board, fetch);
@@ -37,7 +37,7 @@ pub fn message(
 
 /// The name of the file at which the run ended.
 fn name_of<'a>(status: Status, board: &'a str, fetch: Option<&'a FetchFailure>) -> &'a str
-    ensures { result.now ≡ reported_name status board.now (option_map (λ failure. option_map string_bytes failure.name) fetch) }
+    ensures { result.now ≡ reported_name status board.now (option_map (λ failure. option_map string_bytes failure.now.name) fetch.entry) }
 {
     match (status, fetch) {
         (Status::BoardRefused, _) | (_, None) => board,
