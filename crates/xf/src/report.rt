@@ -26,8 +26,7 @@ pub fn message(
     put: Option<io::Error>,
 ) -> Result<Vec<u8>, OutOfMemory>
     // The words of the cause are the system's.
-    ensures {
-        let name = reported_name status board.now (option_map (λ failure. option_map string_bytes failure.now.name) fetch.entry)
+    ensures { let name = reported_name status board.now (option_map (λ failure. option_map string_bytes failure.now.name) fetch.entry)
         in IfOk result (λ text. (cause : List ℕ) × (text.items ≡ report_line status is_seen name cause)) }
 {
     let name = name_of(status, board, fetch);

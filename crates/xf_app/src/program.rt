@@ -26,25 +26,21 @@ pub fn run<D: Depot, S: Sink, L: Ledger>(
     steps: &mut Steps<L>,
 ) -> Status
     // Why it ended so: the cause of each status, and that no count of faults rises but for the fault that is told.
-    ensures cause {
-        let run = run_account (map string_bytes words.now)
-            (D.account depot.old, S.account sink.old) (D.account depot.new, S.account sink.new)
+    ensures cause { let run = run_account (map string_bytes words.now)
+        (D.account depot.old, S.account sink.old) (D.account depot.new, S.account sink.new)
         in HasCause run result }
-    ensures faults {
-        let run = run_account (map string_bytes words.now)
-            (D.account depot.old, S.account sink.old) (D.account depot.new, S.account sink.new)
+    ensures faults { let run = run_account (map string_bytes words.now)
+        (D.account depot.old, S.account sink.old) (D.account depot.new, S.account sink.new)
         in CountsFaults run result }
 
     // What was put: all that is due for these words and files, with the status that is due, or a first part of it.
-    ensures due {
-        let run = run_account (map string_bytes words.now)
-            (D.account depot.old, S.account sink.old) (D.account depot.new, S.account sink.new)
+    ensures due { let run = run_account (map string_bytes words.now)
+        (D.account depot.old, S.account sink.old) (D.account depot.new, S.account sink.new)
         in MeetsDue run result }
 
     // So the bytes put are the session's text, where board and session are held and accepted and nothing failed.
-    ensures headline {
-        let run = run_account (map string_bytes words.now)
-            (D.account depot.old, S.account sink.old) (D.account depot.new, S.account sink.new)
+    ensures headline { let run = run_account (map string_bytes words.now)
+        (D.account depot.old, S.account sink.old) (D.account depot.new, S.account sink.new)
         in Headline run result }
 
     ensures untouched { names_of (map string_bytes words.now) ≡ None → depot.new ≡ depot.old }
@@ -60,9 +56,8 @@ fn answer<D: Depot, S: Sink, L: Ledger>(
     sink: &mut S,
     steps: &mut Steps<L>,
 ) -> Status
-    ensures meets {
-        let run = run_account (map string_bytes words.now)
-            (D.account depot.old, S.account sink.old) (D.account depot.new, S.account sink.new)
+    ensures meets { let run = run_account (map string_bytes words.now)
+        (D.account depot.old, S.account sink.old) (D.account depot.new, S.account sink.new)
         in IsRun run result }
     ensures untouched { names_of (map string_bytes words.now) ≡ None → depot.new ≡ depot.old }
 {

@@ -12,6 +12,8 @@ entry_count cross rows = length rows * length cross.columns
 -- the first cause for which records are not added, want of memory apart
 abbrev pub add_refusal_of : State → List (List Cell) → Option AddRefusal
 add_refusal_of cross rows =
-    if nat_lt cross.limits.rows (length cross.rows + length rows) then Some (TooManyRecords (length cross.rows) (length rows) cross.limits.rows)
-    else if nat_lt cross.limits.entries (entry_count cross cross.rows + entry_count cross rows) then Some (TooManyEntries (entry_count cross cross.rows) (entry_count cross rows) cross.limits.entries)
+    if nat_lt cross.limits.rows (length cross.rows + length rows)
+    then Some (TooManyRecords (length cross.rows) (length rows) cross.limits.rows)
+    else if nat_lt cross.limits.entries (entry_count cross cross.rows + entry_count cross rows)
+    then Some (TooManyEntries (entry_count cross cross.rows) (entry_count cross rows) cross.limits.entries)
     else None

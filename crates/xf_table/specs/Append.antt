@@ -16,6 +16,8 @@ mismatch_of columns placed =
 -- the first cause for which rows are not appended, want of memory apart
 abbrev pub refusal_of : Contents → List (List Cell) → Option AppendRefusal
 refusal_of table rows =
-    if nat_lt table.limits.rows (length table.rows + length rows) then Some (TooManyRecords (length table.rows) (length rows) table.limits.rows)
-    else if nat_lt table.limits.text_bytes (text_of_rows table.rows + text_of_rows rows) then Some (TooMuchText (text_of_rows table.rows) (text_of_rows rows) table.limits.text_bytes)
+    if nat_lt table.limits.rows (length table.rows + length rows)
+    then Some (TooManyRecords (length table.rows) (length rows) table.limits.rows)
+    else if nat_lt table.limits.text_bytes (text_of_rows table.rows + text_of_rows rows)
+    then Some (TooMuchText (text_of_rows table.rows) (text_of_rows rows) table.limits.text_bytes)
     else mismatch_of table.columns (enumerate_from 0 rows)
