@@ -1,5 +1,5 @@
 -- A row is of a schema exactly where it has no misfit.
-use Rattle.std.proofs.Common.{◌≡◌, ◌≤◌, ◌<◌, ◌+◌, ◌-◌, ℕ, ℤ, nat_le, nat_lt, Bool, true, false, ◌&&◌, cond, List, [], ◌∷◌, length, sum_by, drop, Option, Some, None, IsNone, option_map, refl, sym, ap, subst, ◌∙◌, arith, Decides, length-drop}
+use Rattle.std.proofs.Common.{◌≡◌, ◌≤◌, ◌+◌, ◌-◌, ℕ, ℤ, nat_le, nat_lt, Bool, true, false, ◌&&◌, cond, List, [], ◌∷◌, length, sum_by, drop, Option, Some, None, IsNone, option_map, refl, sym, ap, arith, Decides, length-drop}
 use Rattle.std.proofs.lemmas.Int.{ints}
 use Rattle.std.proofs.lemmas.Bool.Decides.{nat_tests, Decides-and}
 use Rattle.std.proofs.lemmas.Cmp.{nat_list_cmp_total}

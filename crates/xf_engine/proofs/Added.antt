@@ -1,9 +1,8 @@
 -- Rows that are added: they hold no text, and the table does not refuse them.
-use Rattle.std.proofs.Common.{◌≡◌, ◌≤◌, ◌+◌, ◌*◌, ◌-◌, ◌^◌, ◌<◌, min, ℕ, nat_lt, Bool, true, false, cond, List, [], ◌∷◌, ◌++◌, length, sum_by, Option, Some, None, refl, sym, ap, subst, ◌∙◌, arith, length-append}
+use Rattle.std.proofs.Common.{◌≡◌, ◌≤◌, ◌+◌, ◌*◌, ℕ, nat_lt, Bool, true, false, cond, List, [], ◌∷◌, ◌++◌, length, sum_by, Some, None, refl, ap, subst, arith, length-append}
 use Rattle.std.proofs.lemmas.Bool.Decides.{nat_tests}
 use Rattle.std.proofs.lemmas.List.Sums.{sum_by-cons}
-use Rattle.std.specs.List.{AllByRecursion, enumerate_from}
-use Rattle.xf_base.specs.Bounds.{Bounds}
+use Rattle.std.specs.List.{AllByRecursion}
 use Rattle.xf_base.specs.Cell.{cell_bytes, row_bytes}
 use Rattle.xf_base.specs.Schema.{IsCellOf, IsRowOf}
 use Rattle.xf_base.specs.declared.cell.Cell.{Cell}
@@ -11,7 +10,7 @@ use Rattle.xf_base.specs.declared.cell.Cell.TheVariants as cell
 use Rattle.xf_base.specs.declared.column.Column.{Column}
 use Rattle.xf_base.specs.declared.column.ColumnKind.{ColumnKind}
 use Rattle.xf_base.specs.declared.column.ColumnKind.TheVariants as kind
-use Rattle.xf_table.specs.Append.{mismatch_of, refusal_of}
+use Rattle.xf_table.specs.Append.{refusal_of}
 use Rattle.xf_table.specs.Table.{Contents, text_of_rows}
 use Rattle.xf_table.proofs.Refusals.{all-append, no_mismatch-from_rows}
 use Rattle.xf_engine.specs.Add.{add_refusal_of, entry_count}

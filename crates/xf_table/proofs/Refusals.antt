@@ -1,5 +1,5 @@
 -- What is true of rows that are not refused, and the other way round.
-use Rattle.std.proofs.Common.{◌≡◌, ◌≤◌, ◌+◌, ◌-◌, ◌^◌, ◌<◌, min, ℕ, nat_lt, Bool, true, false, cond, List, [], ◌∷◌, ◌++◌, length, sum_by, Option, Some, None, option_map, slice_get, refl, sym, ap, ◌∙◌, arith, length-append}
+use Rattle.std.proofs.Common.{◌≡◌, ◌≤◌, ◌+◌, ◌-◌, ◌^◌, ◌<◌, ℕ, nat_lt, Bool, true, false, cond, List, [], ◌∷◌, ◌++◌, length, Option, Some, None, option_map, slice_get, refl, arith, length-append}
 use Rattle.std.proofs.lemmas.Bool.Decides.{nat_tests}
 use Rattle.std.proofs.lemmas.List.Sums.{sum_by-append}
 use Rattle.std.specs.List.{AllByRecursion, cons_option, enumerate_from}
@@ -10,7 +10,7 @@ use Rattle.xf_base.specs.declared.cell.Cell.{Cell}
 use Rattle.xf_base.specs.declared.column.Column.{Column}
 use Rattle.xf_base.proofs.Misfits.{row-from_no_misfit, no_misfit-from_row}
 use Rattle.xf_table.specs.Append.{mismatch_of, refusal_of}
-use Rattle.xf_table.specs.Table.{Contents, IsTable, text_of_rows}
+use Rattle.xf_table.specs.Table.{IsTable, text_of_rows}
 use Rattle.xf_table.specs.declared.append_refusal.AppendRefusal.{AppendRefusal}
 use Rattle.xf_table.specs.declared.append_refusal.AppendRefusal.TheVariants.{KindMismatch}
 

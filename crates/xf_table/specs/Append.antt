@@ -1,5 +1,5 @@
 -- When rows are not appended.
-use Rattle.std.specs.Prelude.{ℕ, ◌+◌, nat_lt, List, length, Option, Some, None, option_map, slice_get, if◌then◌else◌}
+use Rattle.std.specs.Prelude.{ℕ, ◌+◌, nat_lt, List, length, Option, Some, option_map, slice_get, if◌then◌else◌}
 use Rattle.std.specs.List.{enumerate_from, filter_map}
 use Rattle.xf_base.specs.Schema.{misfit_of}
 use Rattle.xf_base.specs.declared.cell.Cell.{Cell}

@@ -1,5 +1,4 @@
-use Rattle.std.proofs.Common.{◌≡◌, ◌+◌, ◌≤◌, ℕ, Some, None, option_map, length, sym, ◌∙◌, arith}
-use Rattle.xf_base.specs.Schema.{misfit_of}
+use Rattle.std.proofs.Common.{sym, ◌∙◌, arith}
 use Rattle.xf_base.proofs.Misfits.{misfit-after}
 use Rattle.xf_base.proofs.misfit.first_misfit.Goals as goal
 
