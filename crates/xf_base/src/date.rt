@@ -24,14 +24,14 @@ pub enum DateRefusal {
     NoSuchDay,
 }
 
-/// 0000-01-01.
+/// The first day that is read and written as a date, 0000-01-01.
 pub const FIRST_DAY: i64 = -719_528;
 
-/// 9999-12-31.
+/// The last one, 9999-12-31.
 pub const LAST_DAY: i64 = 2_932_896;
 
-/// The day that a text writes as `YYYY-MM-DD`, counted from 1970-01-01 on; days before it are negative. Blanks at the
-/// text's ends do not count.
+/// The day that a text writes as `YYYY-MM-DD`, in the Gregorian calendar, as the number of days after 1970-01-01; it is
+/// negative before that day. Blanks at the text's ends do not count.
 pub fn read_date(text: &[u8]) -> Result<i64, DateRefusal>
     ensures value { result ≡ date_of text.now }
     ensures within { IfOk result IsDay }
@@ -68,6 +68,7 @@ fn number_of_digits(digits: &[u8]) -> u16
     number_after_capped(0, digits) as u16
 }
 
+/// The day of a year, a month and a day of the month, if the calendar has it.
 fn day_of(year: u16, month: u8, day: u8) -> Result<i64, DateRefusal>
     requires year { year < 10000 }
     requires month { month < 100 }
@@ -81,7 +82,8 @@ fn day_of(year: u16, month: u8, day: u8) -> Result<i64, DateRefusal>
     }
 }
 
-/// Appends a day as `YYYY-MM-DD`. A number that is no day of the years 0000 to 9999 is written as it is.
+/// Appends a day, given by the number of days after 1970-01-01, as `YYYY-MM-DD`. A number that is no day of the years
+/// 0000 to 9999 is written as it is.
 pub fn put_date(out: &mut Vec<u8>, day: i64) -> Result<(), OutOfMemory>
     ensures ok { OnOk result (out.new.items ≡ out.old.items ++ day_text day) }
     ensures err { OnErr result (out.new.items ≡ out.old.items) }
