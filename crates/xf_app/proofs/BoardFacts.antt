@@ -1,18 +1,16 @@
 -- Facts about the columns that a board is made of.
-use Rattle.std.proofs.Common.{◌≡◌, ℕ, zero, suc, ◌+◌, ◌*◌, ◌^◌, ◌<◌, ◌≤◌, ◌==◌, nat_lt, nat_eq, Bool, true, false, cond, not, ◌&&◌, ◌||◌, List, [], ◌∷◌, ◌++◌, length, map, filter, take, get_or, min, slice_get, unwrap_or, position, Option, Some, None, Result, Ok, Err, is_ok, MatchResult, Bor, refl, sym, ap, ◌∙◌, arith, mul-le-mul, zero-add}
+use Rattle.std.proofs.Common.{◌≡◌, ℕ, suc, ◌+◌, ◌*◌, ◌^◌, ◌<◌, ◌≤◌, ◌==◌, nat_lt, nat_eq, Bool, true, false, cond, not, ◌&&◌, ◌||◌, List, [], ◌∷◌, ◌++◌, length, map, filter, take, get_or, min, slice_get, unwrap_or, Some, None, Result, Ok, Err, is_ok, MatchResult, Bor, refl, sym, ap, ◌∙◌, arith, mul-le-mul, zero-add}
 use Rattle.std.specs.Cmp.Lexicographic.{nat_list_eq_equiv, pointwise}
-use Rattle.std.specs.HashSet.{HashSet, Updates, contains}
-use Rattle.std.specs.List.{All, enumerate_from, list_all, list_any, position_or_len}
+use Rattle.std.specs.List.{All, enumerate_from, list_any, position_or_len}
 use Rattle.std.specs.Str.{IsUtf8, bytes_eq, is_utf8}
 use Rattle.std.proofs.lemmas.Bool.{and_parts, eq-eqb, false_from_ne_true, le-ltb, lt-ltb}
 use Rattle.std.proofs.lemmas.List.{length-map, length-take, map-append, take-map, take_all, take_min}
-use Rattle.std.proofs.lemmas.List.Elements.{All-filter, All-map, All-take, All-weaker, filter_more, filter_passes}
+use Rattle.std.proofs.lemmas.List.Elements.{All-filter, All-map, All-take, filter_more, filter_passes}
 use Rattle.std.proofs.lemmas.List.Folds.{list_any_more}
 use Rattle.std.proofs.lemmas.List.FromFn.{get_or-enumerate_from, length-enumerate_from}
 use Rattle.std.proofs.lemmas.Option.{slice_get-get_or}
 use Rattle.std.proofs.lemmas.Str.{IsUtf8-from_is_utf8, is_utf8-from_IsUtf8}
 use Rattle.xf_app.specs.Board.{board_columns, columns_of, field_of, int_column, is_chosen, is_named, is_number, is_number_column, uneven_place}
-use Rattle.xf_app.specs.declared.board.BoardFault.{BoardFault}
 use Rattle.xf_app.specs.declared.board.BoardFault.TheVariants.{NoHeader, UnevenRecord, TooManyRecords, TooManyEntries}
 use Rattle.xf_base.specs.declared.column.Column.{Column}
 use Rattle.xf_base.specs.declared.limits.TheConstants.Limits.{DIMENSIONS, ENTRIES, ROWS}

@@ -1,15 +1,15 @@
 -- The rows of a board are never refused: each column stands in the header, and takes each field below.
-use Rattle.std.proofs.Common.{◌≡◌, ◌⊎◌, inl, inr, ℕ, zero, suc, ◌+◌, ◌*◌, ◌<◌, ◌≤◌, ◌==◌, nat_lt, Bool, true, false, cond, not, ◌&&◌, ◌||◌, List, [], ◌∷◌, length, map, filter, take, get_or, slice_get, unwrap_or, position, Option, Some, None, Result, Ok, Err, is_ok, refl, sym, ap, ◌∙◌, ⊎_elim, arith, one-add, rules, tests}
-use Rattle.std.specs.List.{All, AllByRecursion, enumerate_from, list_all, list_any, position_or_len, zip}
-use Rattle.std.specs.Result.{result_map_both, result_unwrap_or}
-use Rattle.std.specs.Str.{bytes_eq, is_utf8}
+use Rattle.std.proofs.Common.{◌≡◌, ◌⊎◌, inl, inr, ℕ, zero, suc, ◌+◌, ◌*◌, ◌<◌, ◌≤◌, ◌==◌, nat_lt, Bool, true, false, cond, not, ◌||◌, List, [], ◌∷◌, length, map, filter, take, get_or, slice_get, position, Option, Some, None, Result, Ok, Err, is_ok, refl, sym, ap, ◌∙◌, ⊎_elim, arith, one-add, rules, tests}
+use Rattle.std.specs.List.{All, AllByRecursion, enumerate_from, list_any, position_or_len, zip}
+use Rattle.std.specs.Result.{result_map_both}
+use Rattle.std.specs.Str.{bytes_eq}
 use Rattle.std.proofs.lemmas.Bool.{and_parts, cases_lt, eq-eqb, eqb-true, lt-ltb}
 use Rattle.std.proofs.lemmas.List.Elements.{All-filter, All-take, filter_passes, recursion_from_All}
 use Rattle.std.proofs.lemmas.List.FromFn.{length-enumerate_from}
 use Rattle.std.proofs.lemmas.List.Sums.{AllPass-from_list_all, fails_before_first}
 use Rattle.std.proofs.lemmas.Slice.Eq.{bytes_eq-Decides}
-use Rattle.xf_app.specs.Board.{board_columns, board_of, board_with, columns_of, columns_unless, field_of, int_column, is_chosen, is_named, is_number, is_number_column, uneven_place}
-use Rattle.xf_app.specs.BoardParts.{BoardParts, IsBoard}
+use Rattle.xf_app.specs.Board.{board_columns, columns_of, columns_unless, field_of, int_column, is_chosen, is_named, is_number, is_number_column, uneven_place}
+use Rattle.xf_app.specs.BoardParts.{IsBoard}
 use Rattle.xf_app.specs.declared.board.BoardFault.{BoardFault}
 use Rattle.xf_app.proofs.BoardFacts.{IsPlaced, columns-few, is_uneven, placed}
 use Rattle.xf_app.proofs.NumberText.{number-text}
@@ -21,7 +21,7 @@ use Rattle.xf_base.specs.declared.limits.TheConstants.Limits.{DIMENSIONS, ENTRIE
 use Rattle.xf_engine.specs.Cross.{IsInt}
 use Rattle.xf_load.specs.Cell.{cell_of}
 use Rattle.xf_load.specs.EachOk.{◌>>=◌, each_ok}
-use Rattle.xf_load.specs.Load.{cell_at, place_of, places_of, row_of, rows_of}
+use Rattle.xf_load.specs.Load.{cell_at, place_of, row_of, rows_of}
 use Rattle.xf_load.specs.Records.{records_of}
 use Rattle.xf_load.specs.declared.load.LoadRefusal.{LoadRefusal}
 use Rattle.xf_load.proofs.CellFacts.{cell_of-kind}

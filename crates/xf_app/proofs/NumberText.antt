@@ -1,5 +1,5 @@
 -- A text that reads as a number is ASCII.
-use Rattle.std.proofs.Common.{◌≡◌, ℕ, zero, suc, ◌+◌, ◌-◌, ◌<◌, ◌≤◌, ◌==◌, nat_le, Bool, true, false, cond, not, ◌||◌, ℤ, List, [], ◌∷◌, length, get_or, take, drop, reverse, Result, Ok, Err, is_ok, refl, sym, ⊎_elim, arith}
+use Rattle.std.proofs.Common.{◌≡◌, ℕ, zero, suc, ◌+◌, ◌-◌, ◌<◌, ◌≤◌, ◌==◌, nat_le, Bool, true, false, cond, not, ◌||◌, List, [], ◌∷◌, length, get_or, reverse, Result, Ok, Err, is_ok, refl, ⊎_elim, arith}
 use Rattle.std.specs.Char.{is_ascii_digit}
 use Rattle.std.specs.List.{after_first, before_first, list_all, position_or_len, prefix_len, suffix_len}
 use Rattle.std.specs.Str.{IsAscii, IsUtf8}
@@ -7,7 +7,7 @@ use Rattle.std.proofs.lemmas.Bool.{and_parts, cases_lt, eqb-true, leb-true}
 use Rattle.std.proofs.lemmas.List.{get_or-drop, get_or-reverse, get_or-take, get_or_past}
 use Rattle.std.proofs.lemmas.List.Sums.{AllPass-from_list_all, passes_at_first, prefix_len_passes}
 use Rattle.std.proofs.lemmas.Str.{IsUtf8-from_ascii}
-use Rattle.xf_base.specs.Fixed.{is_blank, is_negative, number_of, read_digits, read_sign, with_sign, without_blanks, without_end_blanks, without_sign, without_start_blanks}
+use Rattle.xf_base.specs.Fixed.{is_blank, is_negative, number_of, read_digits, with_sign, without_blanks, without_end_blanks, without_sign, without_start_blanks}
 use Rattle.xf_base.specs.declared.fixed.NumberRefusal.{NumberRefusal}
 
 blank-small : (byte : ℕ) → is_blank byte ≡ true → byte < 128

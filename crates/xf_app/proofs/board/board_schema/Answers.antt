@@ -1,11 +1,9 @@
 -- The columns are chosen by what all records say, and the causes come in their order.
-use Rattle.std.proofs.Common.{◌≡◌, ◌∙◌, ◌<◌, ◌≤◌, ◌^◌, inr, refl, sym, ap, length, filter, arith, rules}
+use Rattle.std.proofs.Common.{◌∙◌, ◌<◌, ◌^◌, inr, refl, sym, ap, length, filter, arith, rules}
 use Rattle.csv.specs.Records.{fields_of}
-use Rattle.xf_load.specs.Records.{records_of}
 use Rattle.xf_load.proofs.CsvRecords.{records_of-length}
-use Rattle.xf_app.specs.Board.{columns_of, is_number_column}
-use Rattle.xf_base.specs.declared.limits.TheConstants.Limits.{DIMENSIONS, ROWS}
-use Rattle.xf_app.proofs.BoardFacts.{board_columns-entries, board_columns-even, board_columns-records, columns-are, columns-few, entries-fit, places-text}
+use Rattle.xf_app.specs.Board.{is_number_column}
+use Rattle.xf_app.proofs.BoardFacts.{board_columns-entries, board_columns-even, columns-are, columns-few, entries-fit, places-text}
 use Rattle.xf_app.proofs.board.board_schema.Goals as goal
 
 pub count_records-requires : goal.count_records-requires
