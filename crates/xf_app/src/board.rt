@@ -114,7 +114,8 @@ fn named_places(alloc: Global, header: &ByteRecord) -> Result<Vec<usize>, OutOfM
     let mut places = Vec::new(alloc);
     for place in 0..header.len() {
         let name = field_of(header, place);
-        if names.insert(name)? && str::from_utf8(name).is_ok() {
+        let is_new = names.insert(name)?;
+        if is_new && str::from_utf8(name).is_ok() {
             places.push(place)?;
         }
     }
