@@ -42,7 +42,12 @@ const NO_HEADER: &str = "board refused no header\n";
 
 const UNEVEN: &str = "board refused uneven record 2\n";
 
-const NOT_BUILT: &str = "board refused not built\n";
+const ALONE: &str = "step 1 ok moved 1
+records 1 passing 0
+whole all 0
+group a 1
+  1 1
+";
 
 /// The columns `1` to `32`, and a record of the same numbers.
 const WIDE: &[u8] =
@@ -65,7 +70,7 @@ const WIDE_STEP: &str = "step 1 ok moved 1\nrecords 1 passing 0\nwhole all 0\n\
     group 31 1\n  31 0\ngroup 32 1\n  32 1\n";
 
 /// A name, a board, a session on it, and what is written.
-static READ: [(&str, &[u8], &[u8], &str); 13] = [
+static READ: [(&str, &[u8], &[u8], &str); 26] = [
     (
         "no LF after the last record",
         b"a,b\n1,10\n2,20\n2,30",
@@ -129,10 +134,83 @@ static READ: [(&str, &[u8], &[u8], &str); 13] = [
     ),
     ("a header alone, and no step", b"a\n", b"#", ""),
     ("one record, and no step", b"a\n7\n", b" ", ""),
+    (
+        "a column with an empty field",
+        b"a,b,c\n1,10,\n2,20,1\n2,30,2\n",
+        STEP,
+        FIRST_STEP,
+    ),
+    (
+        "a column with a field of blanks",
+        b"a,b,c\n1,10,1\n2,20,  \n2,30,2\n",
+        STEP,
+        FIRST_STEP,
+    ),
+    (
+        "a column with an empty field between quotes",
+        b"a,c,b\n1,\"\",10\n2,1,20\n2,2,30\n",
+        STEP,
+        FIRST_STEP,
+    ),
+    (
+        "a column with a text",
+        b"c,a,b\nx,1,10\n2,2,20\n3,2,30\n",
+        STEP,
+        FIRST_STEP,
+    ),
+    (
+        "a column with a text in the last record",
+        b"a,b,c\n1,10,1\n2,20,2\n2,30,text\n",
+        STEP,
+        FIRST_STEP,
+    ),
+    (
+        "a column with a decimal",
+        b"a,b,c\n1,10,1.5\n2,20,2\n2,30,3\n",
+        STEP,
+        FIRST_STEP,
+    ),
+    (
+        "a column with a number above the greatest",
+        b"a,b,c\n1,10,1000000000000001\n2,20,2\n2,30,3\n",
+        STEP,
+        FIRST_STEP,
+    ),
+    (
+        "two columns of one name",
+        b"a,b,a\n1,10,7\n2,20,8\n2,30,9\n",
+        STEP,
+        FIRST_STEP,
+    ),
+    (
+        "two columns of one name, the first of them left out",
+        b"c,a,b,c\nx,1,10,1\n2,2,20,2\n3,2,30,3\n",
+        STEP,
+        FIRST_STEP,
+    ),
+    (
+        "two columns of one name in a header alone",
+        b"a,b,a\n",
+        STEP,
+        NO_RECORDS,
+    ),
+    (
+        "a quote that is not closed",
+        b"a,b\n1,\"2\n3,4\n",
+        STEP,
+        ALONE,
+    ),
+    (
+        "a name that is not UTF-8",
+        b"a,b,\xFF\n1,10,1\n2,20,2\n2,30,3\n",
+        STEP,
+        FIRST_STEP,
+    ),
+    ("33 columns", TOO_WIDE, b"filter 32 range 0 32\n", WIDE_STEP),
 ];
 
 /// A name, a board, and what is written.
-static REFUSED: [(&str, &[u8], &str); 18] = [
+static REFUSED: [(&str, &[u8], &str); 6] = [
     ("no bytes", b"", NO_HEADER),
     ("empty lines alone", b"\xEF\xBB\xBF\r\n\n", NO_HEADER),
     ("a record with a field less", b"a,b\n1,2\n3\n", UNEVEN),
@@ -147,26 +225,6 @@ static REFUSED: [(&str, &[u8], &str); 18] = [
         b"a,a\n1,x\n1,2\n1,2,3",
         "board refused uneven record 3\n",
     ),
-    ("an empty field", b"a,b\n1,\n", NOT_BUILT),
-    ("a field of blanks", b"a,b\n1,  \n", NOT_BUILT),
-    ("an empty field between quotes", b"a\n\"\"\n", NOT_BUILT),
-    ("a text", b"a,b\n1,x\n", NOT_BUILT),
-    ("a text in the last record", b"a\n1\ntext\n", NOT_BUILT),
-    ("a decimal", b"a\n1.5\n", NOT_BUILT),
-    (
-        "a number above the greatest",
-        b"a\n1000000000000001\n",
-        NOT_BUILT,
-    ),
-    ("two columns of one name", b"a,b,a\n1,2,3\n", NOT_BUILT),
-    ("two columns of one name alone", b"a,b,a\n", NOT_BUILT),
-    (
-        "a quote that is not closed",
-        b"a,b\n1,\"2\n3,4\n",
-        NOT_BUILT,
-    ),
-    ("a name that is not UTF-8", b"a,\xFF\n1,2\n", NOT_BUILT),
-    ("33 columns", TOO_WIDE, NOT_BUILT),
 ];
 
 #[test]

@@ -57,7 +57,7 @@ const FILES: &[(&str, &[u8])] = &[
     ("s.txt", SESSION),
     (".csv", BOARD),
     ("empty.csv", b""),
-    ("texts.csv", b"a,b\n1,x\n"),
+    ("uneven.csv", b"a,b\n1\n"),
 ];
 
 /// What a run is given, and what it must give.

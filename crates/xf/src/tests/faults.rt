@@ -83,7 +83,7 @@ static UNWRITTEN: [(&str, &str, (u64, u64), &str); 7] = [
     ),
     (
         "a board's refusal that is cut",
-        "texts.csv|s.txt",
+        "uneven.csv|s.txt",
         (1, 6),
         "board ",
     ),
@@ -103,11 +103,11 @@ static ORDER: [(&str, &str, u64, (u64, u64), u8, &str); 5] = [
     ),
     (
         "a board's refusal before a failing fetch",
-        "texts.csv|s.txt",
+        "uneven.csv|s.txt",
         2,
         (0, 0),
         3,
-        "board refused not built\n",
+        "board refused uneven record 1\n",
     ),
     (
         "a failing fetch before a failing put",
