@@ -1,4 +1,5 @@
-//! Worked examples: two columns, some records, and what is seen after each filter.
+//! Worked examples: two columns, some records, and what is seen after each step; and the same by the plain functions of
+//! xf_model.
 ghost use Rattle.std.specs.Prelude.{◌≡◌, ◌<◌, ◌≤◌, length, IfOk};
 ghost use Rattle.std.specs.List.{AllByRecursion};
 ghost use Rattle.xf_base.specs.Schema.{IsRowOf};
@@ -12,6 +13,9 @@ use std::sync::ledger::{Blank, Ledger};
 use std::test::Fail;
 use xf_base::{
     Cell, Column, ColumnKind, Key, Limits, OutOfMemory, Row, RowList, Schema, Steps, Text,
+};
+use xf_model::{
+    PlainDimension, PlainEntry, PlainRange, group_entries, moved, selected, whole_count,
 };
 
 /// What is done, and what must be seen then.
@@ -70,6 +74,40 @@ fn pairs(alloc: Global, schema: &Schema, records: &[(i16, i16)]) -> Result<RowLi
     Ok(rows)
 }
 
+/// The same records and ranges, for the plain functions.
+#[derive(Drop)]
+struct Plain {
+    rows: Vec<Vec<i64>>,
+    dimensions: [PlainDimension; 2],
+}
+
+impl Plain {
+    fn new(alloc: Global, records: &[(i16, i16)]) -> Result<Plain, Fail> {
+        let mut rows = Vec::new(alloc);
+        for (first, second) in records {
+            rows.push(vec![in alloc; i64::from(*first), i64::from(*second)]?)?;
+        }
+        let dimensions = [0, 1].map(|column| PlainDimension {
+            column,
+            range: None,
+        });
+        Ok(Plain { rows, dimensions })
+    }
+
+    /// Sets a column's range, and answers how many rows it moves.
+    fn set_filter(&mut self, rt: &impl Abort, column: usize, range: Range) -> u64 {
+        assert!(rt; column < self.dimensions.len());
+        let dimension = &mut self.dimensions[column];
+        let new = Some(PlainRange {
+            low: range.low,
+            high: range.high,
+        });
+        let number = moved(column, dimension.range, new, self.rows.as_slice());
+        dimension.range = new;
+        number
+    }
+}
+
 fn assert_entries(rt: &impl Abort, entries: &[KeyNumber], expected: &[(i64, i128)]) {
     assert_eq!(rt; entries.len(), expected.len());
     for (entry, (key, number)) in entries.iter().zip(expected) {
@@ -79,6 +117,38 @@ fn assert_entries(rt: &impl Abort, entries: &[KeyNumber], expected: &[(i64, i128
         }
         assert_eq!(rt; entry.number, *number);
     }
+}
+
+/// The entries of the plain functions, as those of the tables.
+fn pairs_of(alloc: Global, entries: &[PlainEntry]) -> Result<Vec<(i64, i128)>, Fail> {
+    let mut found = Vec::new(alloc);
+    for entry in entries {
+        found.push((entry.key, i128::from(entry.number)))?;
+    }
+    Ok(found)
+}
+
+/// Compares what passes, and the entries of each group, with what the plain functions give.
+fn see_plain<L: Ledger>(
+    rt: &impl Abort,
+    alloc: Global,
+    cross: &Cross,
+    steps: &mut Steps<L>,
+    plain: &Plain,
+) -> Result<(), Fail> {
+    let rows = plain.rows.as_slice();
+    let passing = cross.passing_count(steps);
+    assert_eq!(rt; passing, whole_count(&plain.dimensions, rows));
+    let found = selected(alloc, &plain.dimensions, None, rows)?;
+    assert_eq!(rt; passing, found.len() as u64);
+    for column in 0..2 {
+        assert!(rt; column < cross.schema().len());
+        let entries = cross.group_all(alloc, column, steps)?;
+        let expected = group_entries(alloc, &plain.dimensions, column, rows)?;
+        let expected = pairs_of(alloc, expected.as_slice())?;
+        assert_entries(rt, &entries, expected.as_slice());
+    }
+    Ok(())
 }
 
 fn see<L: Ledger>(
@@ -143,6 +213,51 @@ fn worked_examples(rt: HostRuntime) -> Result<(), Fail> {
         Step::Filter(0, Range { low: 8, high: 0 }, 0),
     ];
     see::<Brand>(&rt, rt.alloc(), Blank::new(1), Limits::standard(), &flights)
+}
+
+/// Sets ranges on both, and compares what they give after each.
+fn see_both<L: Ledger>(
+    rt: &impl Abort,
+    alloc: Global,
+    blank: Blank,
+    records: &[(i16, i16)],
+    ranges: &[(usize, Range)],
+) -> Result<(), Fail>
+    requires name { blank.name ≡ L.name }
+    requires parts { blank.parts ≡ L.parts }
+    requires some { 0 < blank.parts }
+{
+    let mut steps = Steps::<L>::new(blank);
+    let schema = two_columns(alloc)?;
+    let rows = pairs(alloc, &schema, records)?;
+    let mut cross = Cross::new(alloc, schema, Limits::standard());
+    assert_eq!(rt; cross.add_records(rows, &mut steps).err(), None);
+    let mut plain = Plain::new(alloc, records)?;
+    for (column, range) in ranges {
+        assert!(rt; *column < cross.schema().len());
+        let moves = cross.set_filter(*column, range.low, range.high, &mut steps);
+        assert_eq!(rt; moves, plain.set_filter(rt, *column, *range));
+        see_plain(rt, alloc, &cross, &mut steps, &plain)?;
+    }
+    Ok(())
+}
+
+/// What is moved, what passes and the entries of both groups are what the plain functions give.
+#[test]
+fn gives_what_the_plain_functions_give(rt: HostRuntime) -> Result<(), Fail> {
+    let records = [(5, 1), (-5, 2), (5, 2), (0, 1), (5, 1), (6, 2), (-5, 3)];
+    let ranges = [
+        (1, Range { low: 2, high: 3 }),
+        (0, Range { low: 0, high: 6 }),
+        (1, Range { low: 1, high: 2 }),
+        (0, Range { low: 5, high: 5 }),
+        (0, Range { low: 9, high: -9 }),
+        (1, Range { low: 0, high: 9 }),
+        (0, Range { low: -5, high: 7 }),
+    ];
+    see_both::<Brand>(&rt, rt.alloc(), Blank::new(1), &records, &ranges)?;
+    see_both::<Brand>(&rt, rt.alloc(), Blank::new(1), &records[..1], &ranges)?;
+    see_both::<Brand>(&rt, rt.alloc(), Blank::new(1), &[], &ranges)
 }
 
 /// At most four records, and six entries of two dimensions.
