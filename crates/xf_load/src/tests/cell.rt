@@ -30,119 +30,122 @@ fn answer(alloc: Global, column: &Column, field: &[u8]) -> Result<String, Fail> 
     }
 }
 
+const TAGS: ColumnKind = ColumnKind::Tags(b';');
+
+/// A name, a kind of column, a field, and its cell.
+static FIELDS: [(&str, ColumnKind, &[u8], &str); 44] = [
+    ("whole", ColumnKind::Int, b"-7", "-7"),
+    ("zero decimals", ColumnKind::Int, b" +7.0 ", "7"),
+    (
+        "a decimal too many",
+        ColumnKind::Int,
+        b"1.5",
+        "too many decimals",
+    ),
+    ("empty number", ColumnKind::Int, b"", "empty"),
+    ("blank number", ColumnKind::Int, b"   ", "empty"),
+    ("a word", ColumnKind::Int, b"x", "not a number"),
+    ("a tab is no blank", ColumnKind::Int, b"\t1", "not a number"),
+    (
+        "greatest",
+        ColumnKind::Int,
+        b"1000000000000000",
+        "1000000000000000",
+    ),
+    (
+        "above the greatest",
+        ColumnKind::Int,
+        b"1000000000000001",
+        "out of range",
+    ),
+    ("bytes come first", ColumnKind::Int, b"1\xFF", "not utf8"),
+    ("decimals", ColumnKind::Fixed(2), b"1.5", "150"),
+    ("below zero", ColumnKind::Fixed(2), b"-.05", "-5"),
+    (
+        "a third decimal",
+        ColumnKind::Fixed(2),
+        b"1.005",
+        "too many decimals",
+    ),
+    ("a third zero", ColumnKind::Fixed(2), b"1.000", "100"),
+    ("empty fixed", ColumnKind::Fixed(9), b" ", "empty"),
+    ("first day", ColumnKind::Date, b"1970-01-01", "0"),
+    ("leap day", ColumnKind::Date, b" 2000-02-29 ", "11016"),
+    ("before 1970", ColumnKind::Date, b"1969-12-31", "-1"),
+    (
+        "no leap day",
+        ColumnKind::Date,
+        b"2001-02-29",
+        "no such day",
+    ),
+    ("one digit", ColumnKind::Date, b"2001-2-03", "not a date"),
+    ("empty date", ColumnKind::Date, b"", "empty"),
+    ("blank date", ColumnKind::Date, b"  ", "empty"),
+    (
+        "date of bytes",
+        ColumnKind::Date,
+        b"2001-01-0\xFF",
+        "not utf8",
+    ),
+    ("text", ColumnKind::Text, b"a b", "|a b|"),
+    ("empty text", ColumnKind::Text, b"", "||"),
+    ("blanks stay", ColumnKind::Text, b"  ", "|  |"),
+    ("blanks at the ends stay", ColumnKind::Text, b" a ", "| a |"),
+    (
+        "text beyond ascii",
+        ColumnKind::Text,
+        b"\xC3\xA9",
+        "|\u{e9}|",
+    ),
+    ("text of bytes", ColumnKind::Text, b"a\xC3", "not utf8"),
+    ("tags in order", TAGS, b"b;a", "tags|a||b|"),
+    ("a tag twice", TAGS, b"a;b;a", "tags|a||b|"),
+    ("one tag", TAGS, b"a", "tags|a|"),
+    ("no tags", TAGS, b"", "tags"),
+    ("empty pieces", TAGS, b";;a;;", "tags|a|"),
+    ("separators alone", TAGS, b";;", "tags"),
+    ("blanks are a tag", TAGS, b"  ", "tags|  |"),
+    ("blanks are part of a tag", TAGS, b"a; a", "tags| a||a|"),
+    (
+        "a front before the whole",
+        TAGS,
+        b"ab;a;b",
+        "tags|a||ab||b|",
+    ),
+    (
+        "ordered by bytes",
+        TAGS,
+        b"a;\xC3\xA9;Z;z",
+        "tags|Z||a||z||\u{e9}|",
+    ),
+    ("tags of bytes", TAGS, b"a;\xC3;\xA9", "not utf8"),
+    (
+        "other separator",
+        ColumnKind::Tags(b','),
+        b"a;b,c",
+        "tags|a;b||c|",
+    ),
+    (
+        "blank separates",
+        ColumnKind::Tags(b' '),
+        b"b a",
+        "tags|a||b|",
+    ),
+    (
+        "blanks that separate",
+        ColumnKind::Tags(b' '),
+        b"  ",
+        "tags",
+    ),
+    ("NUL separates", ColumnKind::Tags(0), b"b\0a", "tags|a||b|"),
+];
+
 #[test]
 fn reads_fields(rt: HostRuntime) -> Result<(), Fail> {
-    let tags = ColumnKind::Tags(b';');
-    let cases: [(&str, ColumnKind, &[u8], &str); 44] = [
-        ("whole", ColumnKind::Int, b"-7", "-7"),
-        ("zero decimals", ColumnKind::Int, b" +7.0 ", "7"),
-        (
-            "a decimal too many",
-            ColumnKind::Int,
-            b"1.5",
-            "too many decimals",
-        ),
-        ("empty number", ColumnKind::Int, b"", "empty"),
-        ("blank number", ColumnKind::Int, b"   ", "empty"),
-        ("a word", ColumnKind::Int, b"x", "not a number"),
-        ("a tab is no blank", ColumnKind::Int, b"\t1", "not a number"),
-        (
-            "greatest",
-            ColumnKind::Int,
-            b"1000000000000000",
-            "1000000000000000",
-        ),
-        (
-            "above the greatest",
-            ColumnKind::Int,
-            b"1000000000000001",
-            "out of range",
-        ),
-        ("bytes come first", ColumnKind::Int, b"1\xFF", "not utf8"),
-        ("decimals", ColumnKind::Fixed(2), b"1.5", "150"),
-        ("below zero", ColumnKind::Fixed(2), b"-.05", "-5"),
-        (
-            "a third decimal",
-            ColumnKind::Fixed(2),
-            b"1.005",
-            "too many decimals",
-        ),
-        ("a third zero", ColumnKind::Fixed(2), b"1.000", "100"),
-        ("empty fixed", ColumnKind::Fixed(9), b" ", "empty"),
-        ("first day", ColumnKind::Date, b"1970-01-01", "0"),
-        ("leap day", ColumnKind::Date, b" 2000-02-29 ", "11016"),
-        ("before 1970", ColumnKind::Date, b"1969-12-31", "-1"),
-        (
-            "no leap day",
-            ColumnKind::Date,
-            b"2001-02-29",
-            "no such day",
-        ),
-        ("one digit", ColumnKind::Date, b"2001-2-03", "not a date"),
-        ("empty date", ColumnKind::Date, b"", "empty"),
-        ("blank date", ColumnKind::Date, b"  ", "empty"),
-        (
-            "date of bytes",
-            ColumnKind::Date,
-            b"2001-01-0\xFF",
-            "not utf8",
-        ),
-        ("text", ColumnKind::Text, b"a b", "|a b|"),
-        ("empty text", ColumnKind::Text, b"", "||"),
-        ("blanks stay", ColumnKind::Text, b"  ", "|  |"),
-        ("blanks at the ends stay", ColumnKind::Text, b" a ", "| a |"),
-        (
-            "text beyond ascii",
-            ColumnKind::Text,
-            b"\xC3\xA9",
-            "|\u{e9}|",
-        ),
-        ("text of bytes", ColumnKind::Text, b"a\xC3", "not utf8"),
-        ("tags in order", tags, b"b;a", "tags|a||b|"),
-        ("a tag twice", tags, b"a;b;a", "tags|a||b|"),
-        ("one tag", tags, b"a", "tags|a|"),
-        ("no tags", tags, b"", "tags"),
-        ("empty pieces", tags, b";;a;;", "tags|a|"),
-        ("separators alone", tags, b";;", "tags"),
-        ("blanks are a tag", tags, b"  ", "tags|  |"),
-        ("blanks are part of a tag", tags, b"a; a", "tags| a||a|"),
-        (
-            "a front before the whole",
-            tags,
-            b"ab;a;b",
-            "tags|a||ab||b|",
-        ),
-        (
-            "ordered by bytes",
-            tags,
-            b"a;\xC3\xA9;Z;z",
-            "tags|Z||a||z||\u{e9}|",
-        ),
-        ("tags of bytes", tags, b"a;\xC3;\xA9", "not utf8"),
-        (
-            "other separator",
-            ColumnKind::Tags(b','),
-            b"a;b,c",
-            "tags|a;b||c|",
-        ),
-        (
-            "blank separates",
-            ColumnKind::Tags(b' '),
-            b"b a",
-            "tags|a||b|",
-        ),
-        (
-            "blanks that separate",
-            ColumnKind::Tags(b' '),
-            b"  ",
-            "tags",
-        ),
-        ("NUL separates", ColumnKind::Tags(0), b"b\0a", "tags|a||b|"),
-    ];
-    for (name, kind, field, want) in cases {
-        let column = column(rt.alloc(), kind, None)?;
+    for (name, kind, field, want) in &FIELDS {
+        let column = column(rt.alloc(), *kind, None)?;
         let text = answer(rt.alloc(), &column, field)?;
-        assert_eq!(rt; text.as_str(), want, "{name}");
+        assert_eq!(rt; text.as_str(), *want, "{name}");
     }
     Ok(())
 }

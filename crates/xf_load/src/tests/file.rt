@@ -36,153 +36,155 @@ fn rows_shown(alloc: Global, rows: &RowList) -> Result<String, Fail> {
     Ok(text)
 }
 
+/// A name, a file, and its rows under the two columns.
+static FILES: [(&str, &[u8], &str); 36] = [
+    ("rows", b"delay,carrier\n7,AA\n-5,DL\n", "7 |AA|;-5 |DL|;"),
+    ("no last line feed", b"delay,carrier\n7,AA", "7 |AA|;"),
+    ("no rows", b"delay,carrier\n", ""),
+    ("header alone", b"delay,carrier", ""),
+    ("empty file", b"", "no header"),
+    ("empty lines alone", b"\n\r\n\r\n", "no header"),
+    ("byte order mark alone", b"\xEF\xBB\xBF", "no header"),
+    (
+        "byte order mark",
+        b"\xEF\xBB\xBFdelay,carrier\r\n+3,UA\r\n",
+        "3 |UA|;",
+    ),
+    (
+        "one mark is dropped",
+        b"\xEF\xBB\xBF\xEF\xBB\xBFdelay,carrier\n",
+        "missing column 0",
+    ),
+    (
+        "a mark is dropped before a quote",
+        b"\xEF\xBB\xBF\"delay\",carrier\n1,A\n",
+        "1 |A|;",
+    ),
+    (
+        "carriage returns",
+        b"delay,carrier\r7,AA\r-5,DL\r",
+        "7 |AA|;-5 |DL|;",
+    ),
+    (
+        "quotes and an unused column",
+        b"carrier,note,delay,distance\r\n\"A, A\",\"x, y\",1,2\r\nUA,,+3,4.0\r\n",
+        "1 |A, A|;3 |UA|;",
+    ),
+    (
+        "a quote and a line feed in quotes",
+        b"delay,carrier\n1,\"a\"\"\nb\"\n",
+        "1 |a\"\nb|;",
+    ),
+    (
+        "columns in another order",
+        b"carrier,delay\nAA,7\n",
+        "7 |AA|;",
+    ),
+    (
+        "of two columns the first counts",
+        b"delay,carrier,delay,carrier\n1,a,x,\xFF\n",
+        "1 |a|;",
+    ),
+    (
+        "a name of bytes is another name",
+        b"delay,\xFF,carrier\n1,\xFF,a\n",
+        "1 |a|;",
+    ),
+    ("quoted names", b"\"delay\",\"carrier\"\n1,a\n", "1 |a|;"),
+    (
+        "names have their blanks",
+        b" delay,carrier\n1,a\n",
+        "missing column 0",
+    ),
+    (
+        "names have their case",
+        b"Delay,carrier\n",
+        "missing column 0",
+    ),
+    ("the second is missing", b"delay\n1\n", "missing column 1"),
+    ("both are missing", b"a,b\n1\n", "missing column 0"),
+    (
+        "a missing column before records",
+        b"carrier\nx,y\n",
+        "missing column 0",
+    ),
+    ("empty text", b"delay,carrier\n1,\n", "1 ||;"),
+    (
+        "blank number",
+        b"delay,carrier\n ,A\n",
+        "bad cell 1 0 empty",
+    ),
+    (
+        "a decimal too many",
+        b"delay,carrier\n1,A\n1.5,A\n",
+        "bad cell 2 0 too many decimals",
+    ),
+    (
+        "bytes in a text",
+        b"delay,carrier\n1,A\n2,\xFF\n",
+        "bad cell 2 1 not utf8",
+    ),
+    (
+        "of two bad cells the first of the schema",
+        b"carrier,delay\n\xFF,x\n",
+        "bad cell 1 0 not a number",
+    ),
+    (
+        "too few fields",
+        b"delay,carrier\n1,A\n2\n",
+        "uneven record 2",
+    ),
+    (
+        "too many fields",
+        b"delay,carrier\n1,A,\n",
+        "uneven record 1",
+    ),
+    (
+        "empty lines have no number",
+        b"delay,carrier\n\n1,A\n\n\n2\n",
+        "uneven record 2",
+    ),
+    (
+        "unevenness before the cells of a record",
+        b"delay,carrier\nx\n",
+        "uneven record 1",
+    ),
+    (
+        "a bad cell before a later uneven record",
+        b"delay,carrier\n1,A\nx,A\n3\n",
+        "bad cell 2 0 not a number",
+    ),
+    (
+        "an uneven record before a later bad cell",
+        b"delay,carrier\n1,A\n3\nx,A\n",
+        "uneven record 2",
+    ),
+    (
+        "the first of two bad records",
+        b"delay,carrier\n1.5,A\nx,A\n",
+        "bad cell 1 0 too many decimals",
+    ),
+    (
+        "an unused column may hold anything",
+        b"delay,x,carrier\n1,\xFF,a\n2,,b\n",
+        "1 |a|;2 |b|;",
+    ),
+    (
+        "an open quote takes the rest",
+        b"delay,carrier\n1,\"a\n2,b\n",
+        "1 |a\n2,b\n|;",
+    ),
+];
+
 #[test]
 fn reads_files(rt: HostRuntime) -> Result<(), Fail> {
-    let cases: [(&str, &[u8], &str); 36] = [
-        ("rows", b"delay,carrier\n7,AA\n-5,DL\n", "7 |AA|;-5 |DL|;"),
-        ("no last line feed", b"delay,carrier\n7,AA", "7 |AA|;"),
-        ("no rows", b"delay,carrier\n", ""),
-        ("header alone", b"delay,carrier", ""),
-        ("empty file", b"", "no header"),
-        ("empty lines alone", b"\n\r\n\r\n", "no header"),
-        ("byte order mark alone", b"\xEF\xBB\xBF", "no header"),
-        (
-            "byte order mark",
-            b"\xEF\xBB\xBFdelay,carrier\r\n+3,UA\r\n",
-            "3 |UA|;",
-        ),
-        (
-            "one mark is dropped",
-            b"\xEF\xBB\xBF\xEF\xBB\xBFdelay,carrier\n",
-            "missing column 0",
-        ),
-        (
-            "a mark is dropped before a quote",
-            b"\xEF\xBB\xBF\"delay\",carrier\n1,A\n",
-            "1 |A|;",
-        ),
-        (
-            "carriage returns",
-            b"delay,carrier\r7,AA\r-5,DL\r",
-            "7 |AA|;-5 |DL|;",
-        ),
-        (
-            "quotes and an unused column",
-            b"carrier,note,delay,distance\r\n\"A, A\",\"x, y\",1,2\r\nUA,,+3,4.0\r\n",
-            "1 |A, A|;3 |UA|;",
-        ),
-        (
-            "a quote and a line feed in quotes",
-            b"delay,carrier\n1,\"a\"\"\nb\"\n",
-            "1 |a\"\nb|;",
-        ),
-        (
-            "columns in another order",
-            b"carrier,delay\nAA,7\n",
-            "7 |AA|;",
-        ),
-        (
-            "of two columns the first counts",
-            b"delay,carrier,delay,carrier\n1,a,x,\xFF\n",
-            "1 |a|;",
-        ),
-        (
-            "a name of bytes is another name",
-            b"delay,\xFF,carrier\n1,\xFF,a\n",
-            "1 |a|;",
-        ),
-        ("quoted names", b"\"delay\",\"carrier\"\n1,a\n", "1 |a|;"),
-        (
-            "names have their blanks",
-            b" delay,carrier\n1,a\n",
-            "missing column 0",
-        ),
-        (
-            "names have their case",
-            b"Delay,carrier\n",
-            "missing column 0",
-        ),
-        ("the second is missing", b"delay\n1\n", "missing column 1"),
-        ("both are missing", b"a,b\n1\n", "missing column 0"),
-        (
-            "a missing column before records",
-            b"carrier\nx,y\n",
-            "missing column 0",
-        ),
-        ("empty text", b"delay,carrier\n1,\n", "1 ||;"),
-        (
-            "blank number",
-            b"delay,carrier\n ,A\n",
-            "bad cell 1 0 empty",
-        ),
-        (
-            "a decimal too many",
-            b"delay,carrier\n1,A\n1.5,A\n",
-            "bad cell 2 0 too many decimals",
-        ),
-        (
-            "bytes in a text",
-            b"delay,carrier\n1,A\n2,\xFF\n",
-            "bad cell 2 1 not utf8",
-        ),
-        (
-            "of two bad cells the first of the schema",
-            b"carrier,delay\n\xFF,x\n",
-            "bad cell 1 0 not a number",
-        ),
-        (
-            "too few fields",
-            b"delay,carrier\n1,A\n2\n",
-            "uneven record 2",
-        ),
-        (
-            "too many fields",
-            b"delay,carrier\n1,A,\n",
-            "uneven record 1",
-        ),
-        (
-            "empty lines have no number",
-            b"delay,carrier\n\n1,A\n\n\n2\n",
-            "uneven record 2",
-        ),
-        (
-            "unevenness before the cells of a record",
-            b"delay,carrier\nx\n",
-            "uneven record 1",
-        ),
-        (
-            "a bad cell before a later uneven record",
-            b"delay,carrier\n1,A\nx,A\n3\n",
-            "bad cell 2 0 not a number",
-        ),
-        (
-            "an uneven record before a later bad cell",
-            b"delay,carrier\n1,A\n3\nx,A\n",
-            "uneven record 2",
-        ),
-        (
-            "the first of two bad records",
-            b"delay,carrier\n1.5,A\nx,A\n",
-            "bad cell 1 0 too many decimals",
-        ),
-        (
-            "an unused column may hold anything",
-            b"delay,x,carrier\n1,\xFF,a\n2,,b\n",
-            "1 |a|;2 |b|;",
-        ),
-        (
-            "an open quote takes the rest",
-            b"delay,carrier\n1,\"a\n2,b\n",
-            "1 |a\n2,b\n|;",
-        ),
-    ];
     let schema = flights(rt.alloc())?;
-    for (name, bytes, want) in cases {
+    for (name, bytes, want) in &FILES {
         let text = match records_of(rt.alloc(), &schema, bytes) {
             Ok(rows) => rows_shown(rt.alloc(), &rows)?,
             Err(refusal) => format!(in rt.alloc(); "{refusal}")?,
         };
-        assert_eq!(rt; text.as_str(), want, "{name}");
+        assert_eq!(rt; text.as_str(), *want, "{name}");
     }
     Ok(())
 }
