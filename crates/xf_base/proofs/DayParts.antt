@@ -1,18 +1,18 @@
 -- A date's day has the date's year, month and day of the month, and so the date's text.
-use Rattle.std.proofs.Common.{◌≡◌, ℕ, zero, suc, ◌+◌, ◌-◌, ◌<◌, ◌≤◌, Bool, true, false, cond, ℤ, pos, ◌-ℤ◌, ◌<ℤ◌, int_le, List, ◌∷◌, ◌++◌, decimal, count_by, zero-add, refl, ap, ◌∙◌, arith, rules, ⊎_elim}
+use Rattle.std.proofs.Common.{◌≡◌, ℕ, zero, suc, ◌+◌, ◌-◌, ◌<◌, ◌≤◌, Bool, true, false, cond, ℤ, pos, ◌-ℤ◌, ◌<ℤ◌, int_le, List, ◌∷◌, ◌++◌, decimal, count_by, zero-add, refl, sym, ap, ◌∙◌, arith, rules, ⊎_elim}
 use Rattle.std.specs.List.{range_with_len}
 use Rattle.std.proofs.lemmas.Bool.{and_parts, cases_lt}
 use Rattle.std.proofs.lemmas.List.Sums.{sum_by-cons}
 use Rattle.std.proofs.lemmas.Int.{ints}
 use Rattle.jiff_core.specs.declared.civil.date.Date.{Date}
-use Rattle.jiff_core.specs.Date.{epoch_day}
+use Rattle.jiff_core.specs.Date.{epoch_day, ordinal}
 use Rattle.jiff_core.proofs.DateLemmas.{civil}
 use Rattle.jiff_core.specs.Calendar.{IsCivilDate, IsEpochDay, day_count, days_from_civil}
 use Rattle.jiff_core.proofs.SignedLemmas.{signed_arith}
 use Rattle.jiff_core.proofs.CalendarLemmas.{days_from_civil-day_count, days_of_months_mono, day_count-day_of_year, day_count-later_year, day_count-lt_year, day_count-lt_month, day_count-day}
 use Rattle.xf_base.specs.declared.date.TheConstants.{FIRST_DAY, LAST_DAY}
 use Rattle.xf_base.specs.Fixed.{with_zeros, fixed_text}
-use Rattle.xf_base.specs.Date.{year_of, month_of, day_of_month, is_day, day_text}
+use Rattle.xf_base.specs.Date.{year_of, month_of, day_of_month, month_start, year_start, is_day, day_text, IsDateOf}
 use Rattle.xf_base.specs.Schema.{IsDay}
 use Rattle.xf_base.proofs.ReadDates.{day_count-first_day, epoch_day-within}
 
@@ -91,21 +91,46 @@ is_day-IsDay day is =
 pub is_day-false : (day : ℤ) → (IsDay day → ⊥) → is_day day ≡ false
 is_day-false day outside = grind (arith, ints)
 
--- a date of these years is written as such
-pub day_text-date : (date : Date) (year : ℕ) → date.year ≡ pos year → day_text (epoch_day date) ≡ with_zeros 4 (decimal year) ++ 45 ∷ with_zeros 2 (decimal date.month) ++ 45 ∷ with_zeros 2 (decimal date.day)
-day_text-date date year is_year =
+-- a date of these years is that of its day
+pub IsDateOf-date : (date : Date) (year : ℕ) → date.year ≡ pos year → IsDateOf (epoch_day date) date
+IsDateOf-date date year is_year =
     let civil : IsCivilDate (pos year) date.month date.day = rw is_year at (civil date) in
-    rw (is_day-true (epoch_day date) (epoch_day-within date year is_year), is_year)
-    (rw (day_of_month-date year date.month date.day civil, month_of-date year date.month date.day civil, year_of-date year date.month date.day civil) refl)
+    let same_year : year_of (epoch_day date) ≡ year = rw is_year (year_of-date year date.month date.day civil) in
+    let same_month : month_of (epoch_day date) ≡ date.month = rw is_year (month_of-date year date.month date.day civil) in
+    let same_place : day_of_month (epoch_day date) ≡ date.day = rw is_year (day_of_month-date year date.month date.day civil) in
+    record { same_day = refl; same_year = is_year ∙ sym (ap pos same_year); same_month = sym same_month; same_place = sym same_place }
 
--- a date before them as a number
-pub day_text-before : (date : Date) → date.year <ℤ pos 0 → day_text (epoch_day date) ≡ fixed_text (epoch_day date) 0
-day_text-before date early =
+-- and passes the test of these years, while a date before them does not
+pub is_day-date : (date : Date) (year : ℕ) → date.year ≡ pos year → is_day (epoch_day date) ≡ true
+is_day-date date year is_year = is_day-true (epoch_day date) (epoch_day-within date year is_year)
+
+pub is_day-before : (date : Date) → date.year <ℤ pos 0 → is_day (epoch_day date) ≡ false
+is_day-before date early =
     let before = day_count-lt_year date.year date.month date.day (pos 0) 1 1 (civil date) (omega arith) early in
-    let outside = is_day-false (epoch_day date) (λ within. absurd (omega (arith, signed_arith, days_from_civil-day_count, day_count-first_day, before, within))) in
-    rw outside refl
+    is_day-false (epoch_day date) (λ within. absurd (omega (arith, signed_arith, days_from_civil-day_count, day_count-first_day, before, within)))
 
--- so is what is no date at all
-pub day_text-outside : (day : ℤ) → (IsEpochDay day → ⊥) → day_text day ≡ fixed_text day 0
-day_text-outside day outside =
-    rw (is_day-false day (λ within. outside (omega (arith, signed_arith, within)))) refl
+-- nor does what is no date at all
+pub is_day-outside : (day : ℤ) → (IsEpochDay day → ⊥) → is_day day ≡ false
+is_day-outside day outside = is_day-false day (λ within. outside (omega (arith, signed_arith, within)))
+
+-- a day of these years is written as its date, and what is none of them as a number
+pub day_text-date_of : (day : ℤ) (date : Date) (year : ℕ) → is_day day ≡ true → date.year ≡ pos year → IsDateOf day date → day_text day ≡ with_zeros 4 (decimal year) ++ 45 ∷ with_zeros 2 (decimal date.month) ++ 45 ∷ with_zeros 2 (decimal date.day)
+day_text-date_of day date year is is_year own =
+    let same : year_of day ≡ year = omega (arith, signed_arith, own.same_year, is_year) in
+    rw (is, own.same_month, own.same_place, same) refl
+
+pub day_text-no_day : (day : ℤ) → is_day day ≡ false → day_text day ≡ fixed_text day 0
+day_text-no_day day is = rw is refl
+
+-- the first day of its month is as many days before it as its place says, and that of its year likewise
+pub month_start-date : (day : ℤ) (date : Date) → IsDateOf day date → day -ℤ pos (date.day - 1) ≡ month_start day
+month_start-date day date own =
+    let far = day_count-day date.year date.month date.day 1 date.day_in.0 (omega arith) in
+    rw (← own.same_year, ← own.same_month)
+    (omega (arith, signed_arith, days_from_civil-day_count date.year date.month date.day, days_from_civil-day_count date.year date.month 1, far, own.same_day, date.day_in.0))
+
+pub year_start-date : (day : ℤ) (date : Date) → IsDateOf day date → day -ℤ pos (ordinal date - 1) ≡ year_start day
+year_start-date day date own =
+    let far = day_count-day_of_year date.year date.month date.day date.day_in.0 in
+    rw (← own.same_year)
+    (omega (arith, signed_arith, days_from_civil-day_count date.year date.month date.day, days_from_civil-day_count date.year 1 1, far, own.same_day, date.day_in.0))

@@ -1,5 +1,5 @@
 -- The text of a number reads as that number.
-use Rattle.std.proofs.Common.{◌≡◌, ◌==◌, ℕ, zero, suc, ◌+◌, ◌-◌, ◌/◌, ◌%◌, ◌^◌, ◌<◌, ◌≤◌, Bool, true, false, not, nat_lt, ℤ, pos, negsuc, int_lt, List, [], ◌∷◌, ◌++◌, length, get_or, take, drop, replicate, decimal, Ok, refl, sym, ap, ◌∙◌, arith, lit<, length-append, length-drop, ⊎_elim}
+use Rattle.std.proofs.Common.{◌≡◌, ◌==◌, ℕ, zero, suc, ◌+◌, ◌-◌, ◌/◌, ◌%◌, ◌^◌, ◌<◌, ◌≤◌, Bool, true, false, not, ◌||◌, nat_lt, ℤ, pos, negsuc, int_lt, List, [], ◌∷◌, ◌++◌, length, get_or, take, drop, replicate, decimal, Ok, refl, sym, ap, ◌∙◌, arith, lit<, length-append, length-drop, ⊎_elim}
 use Rattle.std.specs.Char.{is_ascii_digit}
 use Rattle.std.specs.List.{list_all, position_or_len, before_first, after_first}
 use Rattle.std.proofs.lemmas.Bool.{and_from, and_parts, cases_Bool, false_from_ne_true, false≢true}
@@ -10,7 +10,7 @@ use Rattle.std.proofs.lemmas.List.{take-append-drop, take_all, drop_all, length-
 use Rattle.std.proofs.Math.Seq.{take-append_seam, drop-append_seam, append_snoc}
 use Rattle.std.proofs.lemmas.List.Folds.{list_all-append, list_all_at}
 use Rattle.xf_base.specs.declared.fixed.TheConstants.{GREATEST_NUMBER}
-use Rattle.xf_base.specs.Fixed.{is_blank, is_negative, without_sign, number_after, units_of, read_digits, read_sign, number_of, with_zeros, with_point, without_blanks, fixed_text}
+use Rattle.xf_base.specs.Fixed.{is_blank, is_negative, without_sign, number_after, units_of, read_digits, with_sign, read_sign, number_of, with_zeros, with_point, without_blanks, fixed_text}
 use Rattle.xf_base.specs.Schema.{IsCellNumber}
 use Rattle.xf_base.proofs.ReadNumbers.{number_after-append}
 use Rattle.xf_base.proofs.ReadBackDates.{without_blanks-plain, digit-true}
@@ -178,27 +178,31 @@ number_of-marks text decimals some all =
     let full : (length text == 0) ≡ false = grind (arith, nat_tests) in
     rw (without_blanks-marks text some all, full) refl
 
--- the digits of a number with their point
-body : ℕ → ℕ → List ℕ
-body number decimals = with_point decimals (with_zeros (decimals + 1) (decimal number))
+-- a text of digits, perhaps with a point, that reads as this number
+record Reads (text : List ℕ) (number decimals : ℕ) : Type 0 where
+  digits : read_digits (before_first (λ b. b == 46) text) (after_first (λ b. b == 46) text) decimals ≡ Ok number
+  marks : are_marks text ≡ true
+  unsigned : IsUnsigned text
 
-record Reads (number decimals : ℕ) : Type 0 where
-  digits : read_digits (before_first (λ b. b == 46) (body number decimals)) (after_first (λ b. b == 46) (body number decimals)) decimals ≡ Ok number
-  marks : are_marks (body number decimals) ≡ true
-  unsigned : IsUnsigned (body number decimals)
-
-body_reads : (number decimals : ℕ) → number ≤ GREATEST_NUMBER → Reads number decimals
-unfolding body
-body_reads number decimals small =
-    let digits : List ℕ = with_zeros (decimals + 1) (decimal number) in
-    let own : AreDigitsOf number digits = with_zeros-digits (decimals + 1) number (decimal number) (decimal-digits number (omega arith)) in
-    let few : decimals < length digits = omega (arith, length-with_zeros (decimals + 1) (decimal number)) in
+digits_read : (number decimals : ℕ) (digits : List ℕ) → AreDigitsOf number digits → decimals < length digits → number ≤ GREATEST_NUMBER → Reads (with_point decimals digits) number decimals
+digits_read number decimals digits own few small =
     let cut = cut_with_point decimals digits own.all in
     record {
       digits = rw (cut.before, cut.after) (read_digits-cut number decimals digits own few small);
       marks = marks_with_point decimals digits own.all;
       unsigned = unsigned_with_point decimals digits own.all few;
     }
+
+-- the digits of a number with their point
+body : ℕ → ℕ → List ℕ
+body number decimals = with_point decimals (with_zeros (decimals + 1) (decimal number))
+
+body_reads : (number decimals : ℕ) → number ≤ GREATEST_NUMBER → Reads (body number decimals) number decimals
+unfolding body
+body_reads number decimals small =
+    let digits : List ℕ = with_zeros (decimals + 1) (decimal number) in
+    let own : AreDigitsOf number digits = with_zeros-digits (decimals + 1) number (decimal number) (decimal-digits number (omega arith)) in
+    digits_read number decimals digits own (omega (arith, length-with_zeros (decimals + 1) (decimal number))) small
 
 -- a number's text reads as that number
 pub number_of-fixed_text : (number : ℤ) (decimals : ℕ) → IsCellNumber number → number_of (fixed_text number decimals) decimals ≡ Ok number
@@ -210,3 +214,25 @@ number_of-fixed_text (pos n) decimals within =
 number_of-fixed_text (negsuc k) decimals within =
     let reads = body_reads (suc k) decimals (omega (arith, ints, within)) in
     number_of-marks (45 ∷ body (suc k) decimals) decimals (omega arith) reads.marks ∙ rw reads.digits refl
+
+-- nor is a sign a blank
+marks_signed : (text : List ℕ) → are_marks (without_sign text) ≡ true → are_marks text ≡ true
+marks_signed [] all = refl
+marks_signed (byte ∷ rest) all =
+    ⊎_elim
+    (λ (is : ((byte == 43) || (byte == 45)) ≡ true).
+    let sign : not (is_blank byte) ≡ true = grind (arith, nat_tests) in
+    and_from (not (is_blank byte)) (are_marks rest) sign (rw is at all))
+    (λ (none : ((byte == 43) || (byte == 45)) ≡ false). rw none at all)
+    (cases_Bool ((byte == 43) || (byte == 45)))
+
+some_signed : (text : List ℕ) → 0 < length (without_sign text) → 0 < length text
+some_signed [] some = some
+some_signed (byte ∷ rest) some = omega arith
+
+-- digits alone, or a sign and these, read as their number
+pub number_of-plain : (text digits : List ℕ) (negative : Bool) (number : ℕ) → negative ≡ is_negative text → digits ≡ without_sign text → 0 < length digits → list_all is_ascii_digit digits ≡ true → number ≡ number_after 0 digits → number < GREATEST_NUMBER → number_of text 0 ≡ with_sign negative (Ok number)
+number_of-plain text digits negative number sign rest some all is small =
+    let own : AreDigitsOf number digits = record { all = all; value = sym is; some = some } in
+    let reads : Reads (without_sign text) number 0 = rw rest at (digits_read number 0 digits own some (omega arith)) in
+    rw sign (number_of-marks text 0 (some_signed text reads.unsigned.some) (marks_signed text reads.marks) ∙ ap (with_sign (is_negative text)) reads.digits)

@@ -1,16 +1,21 @@
 -- What reading a number digit by digit computes.
-use Rattle.std.proofs.Common.{◌≡◌, ◌==◌, ℕ, true, false, ◌+◌, ◌-◌, ◌*◌, ◌<◌, ◌≤◌, min, List, [], ◌∷◌, ◌++◌, length, get_or, take, drop, replicate, refl, sym, ap, ◌∙◌, arith, ⊎_elim}
+use Rattle.std.proofs.Common.{◌≡◌, ◌==◌, ℕ, true, false, ◌+◌, ◌-◌, ◌*◌, ◌^◌, ◌<◌, ◌≤◌, min, List, [], ◌∷◌, ◌++◌, length, get_or, take, drop, replicate, refl, sym, ap, ◌∙◌, arith, lit<, ⊎_elim}
 use mathlib.Core.List.{append-nil}
 use Rattle.std.proofs.lemmas.List.{drop_all, length-take-le, take-append-le, take-replicate}
 use Rattle.std.proofs.lemmas.List.Sums.{fold_more, fold-append, position_or_len_is}
 use Rattle.std.proofs.lemmas.Bool.{cases_lt}
 use Rattle.std.specs.List.{position_or_len}
+use Rattle.std.proofs.Math.Nat.{pow-le-pow_right}
 use Rattle.std.proofs.Math.Seq.{take-append-add, take-length}
 use Rattle.xf_base.specs.Fixed.{number_after, units_of}
 
 -- a digit more
 pub number_after-more : (front : ℕ) (digits : List ℕ) (i : ℕ) → i < length digits → number_after front (take (i + 1) digits) ≡ number_after front (take i digits) * 10 + (get_or digits i 0 - 48)
 number_after-more front digits i h = fold_more (λ number digit. number * 10 + (digit - 48)) front digits i 0 h
+
+-- a number below the power of ten of at most 15 digits is below the greatest
+pub number_of_digits-small : (i number : ℕ) → i ≤ 15 → number < 10 ^ i → number < 1000000000000000
+number_of_digits-small i number few small = omega (arith, pow-le-pow_right {n = 10} (lit< tt) {i = i} {j = 15} few)
 
 -- digits one after the other
 pub number_after-append : (front : ℕ) (digits more : List ℕ) → number_after front (digits ++ more) ≡ number_after (number_after front digits) more

@@ -1,8 +1,10 @@
 -- How a civil date is read and written.
-use Rattle.std.specs.Prelude.{ℕ, ◌+◌, ◌==◌, nat_le, Bool, ◌&&◌, if◌then◌else◌, ℤ, pos, ◌-ℤ◌, int_le, unsigned_abs, List, ◌∷◌, ◌++◌, length, take, drop, slice_index, count_by, decimal, Result, Ok, Err}
+use Rattle.std.specs.Prelude.{◌≡◌, ℕ, ◌+◌, ◌==◌, nat_le, Bool, ◌&&◌, if◌then◌else◌, ℤ, pos, ◌-ℤ◌, int_le, unsigned_abs, List, ◌∷◌, ◌++◌, length, take, drop, slice_index, count_by, decimal, Result, Ok, Err}
 use Rattle.std.specs.List.{list_all, range_with_len}
 use Rattle.std.specs.Char.{is_ascii_digit}
 use Rattle.jiff_core.specs.Calendar.{days_in_month, days_from_civil}
+use Rattle.jiff_core.specs.Date.{epoch_day}
+use Rattle.jiff_core.specs.declared.civil.date.Date.{Date}
 use Rattle.xf_base.specs.Fixed.{number_after, without_blanks, with_zeros, fixed_text}
 use Rattle.xf_base.specs.declared.date.TheConstants.{FIRST_DAY, LAST_DAY}
 use Rattle.xf_base.specs.declared.date.DateRefusal.{DateRefusal}
@@ -53,6 +55,20 @@ month_of day = count_by (λ month. int_le (days_from_civil (pos (year_of day)) m
 -- its place in the month, from 1
 abbrev pub day_of_month : ℤ → ℕ
 day_of_month day = unsigned_abs (day -ℤ days_from_civil (pos (year_of day)) (month_of day) 1) + 1
+
+-- the first day of its month, and of its year
+abbrev pub month_start : ℤ → ℤ
+month_start day = days_from_civil (pos (year_of day)) (month_of day) 1
+
+abbrev pub year_start : ℤ → ℤ
+year_start day = days_from_civil (pos (year_of day)) 1 1
+
+-- the date of a day of these years
+pub record IsDateOf (day : ℤ) (date : Date) : Type 0 where
+  pub same_day : epoch_day date ≡ day
+  pub same_year : date.year ≡ pos (year_of day)
+  pub same_month : date.month ≡ month_of day
+  pub same_place : date.day ≡ day_of_month day
 
 -- a day as `YYYY-MM-DD`
 abbrev pub date_text : ℤ → List ℕ

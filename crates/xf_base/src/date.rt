@@ -1,8 +1,8 @@
 //! Civil dates, kept as days from 1970-01-01 on.
-ghost use Rattle.std.specs.Prelude.{◌≡◌, ◌<◌, ◌≤◌, ◌^◌, ◌+◌, ◌%◌, ◌/◌, ◌∷◌, ◌++◌, true, decimal, length, IfOk, OnOk, OnErr, IsUtf8};
+ghost use Rattle.std.specs.Prelude.{◌≡◌, ◌<◌, ◌≤◌, ◌^◌, ◌+◌, ◌%◌, ◌/◌, ◌∷◌, ◌++◌, true, decimal, length, is_some, if◌then◌else◌, IfSome, IfOk, OnOk, OnErr, IsUtf8};
 ghost use Rattle.std.specs.List.{list_all};
 ghost use Rattle.std.specs.Char.{is_ascii_digit};
-ghost use Rattle.xf_base.specs.Date.{is_date_form, day_of, date_of, day_text};
+ghost use Rattle.xf_base.specs.Date.{is_date_form, day_of, date_of, day_text, is_day, month_of, month_start, year_start, IsDateOf};
 ghost use Rattle.xf_base.specs.Fixed.{number_after, with_zeros};
 ghost use Rattle.xf_base.specs.Schema.{IsDay};
 
@@ -89,12 +89,47 @@ pub fn put_date(out: &mut Vec<u8>, day: i64) -> Result<(), OutOfMemory>
     ensures err { OnErr result (out.new.items ≡ out.old.items) }
     ensures utf8 { IsUtf8 (day_text day) }
 {
-    match civil::Date::from_unix_epoch_day(day) {
-        Ok(date) if date.year >= 0 => {
+    match date_of_day(day) {
+        Some(date) => {
             out.extend_from_slice(&date_text(date.year as u16, date.month, date.day))?;
             Ok(())
         }
-        _ => put_fixed(out, i128::from(day), 0),
+        None => put_fixed(out, i128::from(day), 0),
+    }
+}
+
+/// The month, from 1 on, of a day; None for a number that is no day of the years 0000 to 9999.
+pub fn month_of(day: i64) -> Option<u8>
+    ensures { result ≡ (if is_day day then Some (month_of day) else None) }
+{
+    let date = date_of_day(day)?;
+    Some(date.month)
+}
+
+/// The first day of a day's month; None for a number that is no day of the years 0000 to 9999.
+pub fn month_start(day: i64) -> Option<i64>
+    ensures { result ≡ (if is_day day then Some (month_start day) else None) }
+{
+    let date = date_of_day(day)?;
+    Some(day - i64::from(date.day - 1))
+}
+
+/// The first day of a day's year; None for a number that is no day of the years 0000 to 9999.
+pub fn year_start(day: i64) -> Option<i64>
+    ensures { result ≡ (if is_day day then Some (year_start day) else None) }
+{
+    let date = date_of_day(day)?;
+    Some(day - i64::from(date.day_of_year() - 1))
+}
+
+/// The date of a day; None for a number that is no day of the years 0000 to 9999.
+fn date_of_day(day: i64) -> Option<civil::Date>
+    ensures some { is_some result ≡ is_day day }
+    ensures date { IfSome result (IsDateOf day) }
+{
+    match civil::Date::from_unix_epoch_day(day) {
+        Ok(date) if date.year >= 0 => Some(date),
+        _ => None,
     }
 }
 

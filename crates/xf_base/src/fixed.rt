@@ -1,5 +1,5 @@
 //! Numbers with a fixed number of decimals, kept as whole numbers of units of the last decimal.
-ghost use Rattle.std.specs.Prelude.{◌≡◌, ◌==◌, ◌+◌, ◌<◌, ◌++◌, not, ◌||◌, min, length, drop, replicate, take, vec_len, OnOk, OnErr, IsUtf8};
+ghost use Rattle.std.specs.Prelude.{◌≡◌, ◌==◌, ◌+◌, ◌^◌, ◌<◌, ◌++◌, true, not, ◌||◌, min, length, drop, replicate, take, vec_len, Ok, IfSome, OnOk, OnErr, IsUtf8};
 ghost use Rattle.std.specs.List.{list_all, list_any, before_first, after_first};
 ghost use Rattle.std.specs.Char.{is_ascii_digit};
 ghost use Rattle.xf_base.specs.Fixed.{is_negative, without_sign, number_after, units_of, read_digits, number_of, with_zeros, with_point, fixed_text};
@@ -29,11 +29,19 @@ pub enum NumberRefusal {
 /// The greatest number of units that a cell may hold; the least is as far below 0.
 pub const GREATEST_NUMBER: u64 = 1_000_000_000_000_000;
 
+/// So many digits write no number above the greatest.
+const PLAIN_DIGITS: usize = 15;
+
 /// The number of units that a text writes: `1.50` is 15 at one decimal. Blanks at its ends do not count, a sign may
 /// stand in front and one point before, among or after the digits.
 pub fn read_fixed(text: &[u8], decimals: u8) -> Result<i64, NumberRefusal>
     ensures { result ≡ number_of text.now decimals }
 {
+    if decimals == 0
+        && let Some(number) = plain_number(text)
+    {
+        return Ok(number);
+    }
     let text = without_blanks(text);
     if text.is_empty() {
         return Err(NumberRefusal::Empty);
@@ -42,6 +50,36 @@ pub fn read_fixed(text: &[u8], decimals: u8) -> Result<i64, NumberRefusal>
     let (whole, fraction) = split_at_point(digits);
     let number = read_digits(whole, fraction, decimals)? as i64;
     Ok(if is_negative { -number } else { number })
+}
+
+/// The number of a text that is few digits alone, or a sign and these. Most whole numbers are such, and their digits are
+/// gone over once.
+fn plain_number(text: &[u8]) -> Option<i64>
+    ensures { IfSome result (λ number. number_of text.now 0 ≡ Ok number) }
+{
+    let (is_negative, digits) = split_sign(text);
+    let number = plain_digits(digits)? as i64;
+    Some(if is_negative { -number } else { number })
+}
+
+/// The number of a text that is digits alone, from 1 to 15 of them.
+fn plain_digits(text: &[u8]) -> Option<u64>
+    ensures some { IfSome result (λ _. 0 < length text.now) }
+    ensures digits { IfSome result (λ _. list_all is_ascii_digit text.now ≡ true) }
+    ensures value { IfSome result (λ number. number ≡ number_after 0 text.now) }
+    ensures small { IfSome result (λ number. number < GREATEST_NUMBER) }
+{
+    if text.is_empty() || text.len() > PLAIN_DIGITS {
+        return None;
+    }
+    let mut number: u64 = 0;
+    for byte in text {
+        if !byte.is_ascii_digit() {
+            return None;
+        }
+        number = number * 10 + u64::from(*byte - b'0');
+    }
+    Some(number)
 }
 
 /// Whether a `-` stands in front, and what stands after the sign.

@@ -22,14 +22,14 @@ mod out_of_memory;
 mod row;
 mod schema;
 mod steps;
-#[cfg(test)]
-mod tests;
 mod text;
 mod word;
 
 pub use cell::{Cell, TextList};
 pub use column::{Column, ColumnKind};
-pub use date::{DateRefusal, FIRST_DAY, LAST_DAY, put_date, read_date};
+pub use date::{
+    DateRefusal, FIRST_DAY, LAST_DAY, month_of, month_start, put_date, read_date, year_start,
+};
 pub use fixed::{GREATEST_NUMBER, NumberRefusal, put_fixed, read_fixed};
 pub use form::{AtomForm, KeyForm, key_of_word, put_key};
 pub use key::{Atom, Key, KeyList};

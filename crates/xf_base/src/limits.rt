@@ -1,6 +1,6 @@
 //! How much a table, an engine and a session may hold.
-ghost use Rattle.std.specs.Prelude.{◌≡◌};
-ghost use Rattle.xf_base.specs.Bounds.{standard};
+ghost use Rattle.std.specs.Prelude.{◌≡◌, true};
+ghost use Rattle.xf_base.specs.Bounds.{AreLimits, standard};
 
 use std::marker::Model;
 
@@ -91,5 +91,13 @@ impl Limits {
             charts: Limits::CHARTS,
             marks: Limits::MARKS,
         }
+    }
+
+    /// True of all limits: the clause tells a proof what they meet.
+    pub fn is_sound(&self) -> bool
+        ensures answer { result ≡ true }
+        ensures sound { AreLimits self.now }
+    {
+        self.rows <= Limits::ROWS
     }
 }

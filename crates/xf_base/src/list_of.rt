@@ -36,6 +36,14 @@ impl<T> ListOf<T> {
         ListOf { items }
     }
 
+    /// The items as a vector, without a copy.
+    pub fn into_vec(self) -> Vec<T>
+        ensures { result.items ≡ self }
+    {
+        let ListOf { items } = self;
+        items
+    }
+
     pub fn len(&self) -> usize
         ensures { result ≡ length self.now }
     {

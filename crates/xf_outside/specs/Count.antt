@@ -22,16 +22,24 @@ abbrev pub CountsError : {X E : Type 0} → Result X E → ℕ → ℕ → Type 
 CountsError (Ok value) before now = now ≡ before
 CountsError (Err error) before now = now ≡ count_after before 1
 
--- a failure of a fetch is counted, and the count of faults stands still where none is answered
+-- a failure of a fetch is counted once, and the count of faults stands still where none is answered
 abbrev pub FaultsAfterFetch : {X : Type 0} → Result X FetchFault → ℕ → ℕ → Type 0
 FaultsAfterFetch (Ok bytes) before now = now ≡ before
 FaultsAfterFetch (Err fetch.Absent) before now = now ≡ before
 FaultsAfterFetch (Err fetch.TooLong) before now = now ≡ before
-FaultsAfterFetch (Err fetch.Failed) before now = Rose before now 1
+FaultsAfterFetch (Err fetch.Failed) before now = RoseExactly before now 1
 FaultsAfterFetch (Err fetch.OutOfMemory) before now = now ≡ before
 
--- a failure of a put is counted, and the count of faults stands still where none is answered
+-- a name that is not found is counted once, and the count of misses stands still where none is told
+abbrev pub MissesAfterFetch : {X : Type 0} → Result X FetchFault → ℕ → ℕ → Type 0
+MissesAfterFetch (Ok bytes) before now = now ≡ before
+MissesAfterFetch (Err fetch.Absent) before now = RoseExactly before now 1
+MissesAfterFetch (Err fetch.TooLong) before now = now ≡ before
+MissesAfterFetch (Err fetch.Failed) before now = now ≡ before
+MissesAfterFetch (Err fetch.OutOfMemory) before now = now ≡ before
+
+-- a failure of a put is counted once, and the count of faults stands still where none is answered
 abbrev pub FaultsAfterPut : {X : Type 0} → Result X PutFault → ℕ → ℕ → Type 0
 FaultsAfterPut (Ok nothing) before now = now ≡ before
-FaultsAfterPut (Err put.Failed) before now = Rose before now 1
+FaultsAfterPut (Err put.Failed) before now = RoseExactly before now 1
 FaultsAfterPut (Err put.OutOfMemory) before now = now ≡ before

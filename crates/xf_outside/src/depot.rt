@@ -2,7 +2,7 @@
 ghost use Rattle.std.specs.Prelude.{◌≡◌, ◌+◌, ◌<◌, ◌≤◌, length, IfOk, IfSome, IsSomeAnd, IsErrOf};
 ghost use Rattle.std.specs.FinMap as map;
 ghost use Rattle.xf_outside.specs.Account.{DepotAccount};
-ghost use Rattle.xf_outside.specs.Count.{FaultsAfterFetch, Rose};
+ghost use Rattle.xf_outside.specs.Count.{FaultsAfterFetch, MissesAfterFetch, Rose};
 
 use std::alloc::{AllocError, Global};
 use thiserror::Error;
@@ -44,11 +44,11 @@ pub trait Depot {
     fn fetch(&mut self, alloc: Global, name: &str, limit: u64) -> Result<Vec<u8>, FetchFault>
         // No call changes the files, and no count falls.
         ensures tells { (account self.new).files ≡ (account self.old).files }
-        ensures misses_stay { (account self.old).misses ≤ (account self.new).misses }
         ensures taken_stay { (account self.old).taken ≤ (account self.new).taken }
 
-        // A failure is counted, and the count of faults stands still where none is answered.
+        // A failure and a name that is not found are counted once, and both counts stand still where none is answered.
         ensures faults { FaultsAfterFetch result (account self.old).faults (account self.new).faults }
+        ensures misses { MissesAfterFetch result (account self.old).misses (account self.new).misses }
 
         ensures fetched { IfOk result (λ bytes. (length bytes.items ≤ limit)
             × IfSome (account self.old).files (λ files. map.get files name.now ≡ Some bytes.items)) }

@@ -21,6 +21,3 @@ pub use memory_depot::MemoryDepot;
 pub use memory_sink::MemorySink;
 pub use sink::{PutFault, Sink};
 pub use std_sink::StdSink;
-
-#[cfg(test)]
-mod tests;

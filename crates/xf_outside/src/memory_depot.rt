@@ -1,7 +1,7 @@
 //! A depot in memory.
 ghost use Rattle.std.specs.Prelude.{◌≡◌, ℕ, ◌+◌, ◌<◌, ◌≤◌, ◌↔◌, [], List, length, Option, Some, option_copied, Contains, IfOk, IfSome, IsSomeAnd, IsErrOf, IsOkUnless, IfErr};
 ghost use Rattle.std.specs.FinMap as map;
-ghost use Rattle.xf_outside.specs.Count.{FaultsAfterFetch, Rose, count_after};
+ghost use Rattle.xf_outside.specs.Count.{FaultsAfterFetch, MissesAfterFetch, Rose, count_after};
 ghost use Rattle.xf_outside.specs.Shelf.{entries_of, file_map};
 
 use crate::depot::{Depot, FetchFault};
@@ -66,9 +66,9 @@ impl Depot for MemoryDepot {
 
     fn fetch(&mut self, alloc: Global, name: &str, limit: u64) -> Result<Vec<u8>, FetchFault>
         ensures tells { self.new.files ≡ self.old.files }
-        ensures misses_stay { self.old.misses ≤ self.new.misses }
         ensures taken_stay { self.old.taken ≤ self.new.taken }
         ensures faults { FaultsAfterFetch result self.old.faults self.new.faults }
+        ensures misses { MissesAfterFetch result self.old.misses self.new.misses }
 
         ensures fetched { IfOk result (λ bytes. (length bytes.items ≤ limit)
             × (map.get (file_map self.old.files) name.now ≡ Some bytes.items)) }

@@ -41,6 +41,6 @@ pub trait Sink {
         // An error leaves a first part of the text put.
         ensures partly { OnErr result (AppendsPrefix (account self.old).bytes (account self.new).bytes text.now) }
 
-        // A failure is counted, and the count of faults stands still where none is answered.
+        // A failure is counted once, and the count of faults stands still where none is answered.
         ensures faults { FaultsAfterPut result (account self.old).faults (account self.new).faults };
 }

@@ -17,7 +17,7 @@ untold-prefix (Err fault) text = (text, [], sym (append-nil text), refl)
 
 faults-after : {X : Type 0} (result : Result X PutFault) (before now : ℕ) → CountsError result before now → IsOkUnless result put.Failed → FaultsAfterPut result before now
 faults-after (Ok nothing) before now counts failed = counts
-faults-after (Err put.Failed) before now counts failed = omega arith
+faults-after (Err put.Failed) before now counts failed = (omega arith, omega arith)
 faults-after (Err put.OutOfMemory) before now counts failed = absurd (cc)
 
 pub put-tells : goal.put-tells
