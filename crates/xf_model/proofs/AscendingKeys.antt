@@ -1,9 +1,9 @@
 -- Keys in ascending order: what `enter` and `ascending` keep, and that a strictly ascending list is known by its members.
-use Rattle.std.proofs.Common.{◌≡◌, ℕ, zero, suc, ◌<◌, ◌≤◌, length, get_or, Bool, true, false, ◌||◌, cond, List, [], ◌∷◌, ◌++◌, map, refl, sym, ap, ◌∙◌, arith}
+use Rattle.std.proofs.Common.{◌≡◌, ℕ, zero, suc, ◌<◌, ◌≤◌, length, get_or, Bool, true, false, ◌||◌, ◌↔◌, cond, List, [], ◌∷◌, ◌++◌, map, refl, sym, ap, ◌∙◌, arith}
 use Rattle.std.proofs.lemmas.Bool.{true≢false}
 use Rattle.std.specs.List.{list_any, AllByRecursion, All, Contains, insert}
 use Rattle.std.specs.List.Sorted.{IsStrictlySortedBy, IsPermutation}
-use Rattle.std.specs.Cmp.{IsTotalOrder}
+use Rattle.std.specs.Cmp.{IsTotalOrder, both_ways, eq_by_cmp_equiv}
 use Rattle.std.specs.Ordering.{ordering_reverse, is_eq, is_lt}
 use Rattle.std.specs.declared.cmp.Ordering.{Ordering}
 use Rattle.std.specs.declared.cmp.Ordering.TheVariants.{Less, Equal, Greater}
@@ -12,7 +12,9 @@ use Rattle.std.specs.FinMap.{IsAntisymmetric}
 use Rattle.std.proofs.lemmas.List.Sorted.{list_any-IsPermutation, IsPermutation-to_front}
 use Rattle.std.proofs.lemmas.List.Elements.{Contains-get_or, recursion_from_All, All-from_recursion}
 use Rattle.std.proofs.lemmas.List.Folds.{list_any-append}
-use Rattle.xf_model.specs.Group.{with_key, distinct_keys}
+use Rattle.std.proofs.lemmas.List.{map-id}
+use Rattle.std.proofs.lemmas.Map.Views.{Contains-from_any, list_any-from_Contains}
+use Rattle.xf_model.specs.Group.{with_key, distinct_keys, rounded_keys}
 
 -- the three answers of a comparison, each with its equation
 pub by_order : {P : Type 0} (r : Ordering) → (r ≡ Less → P) → (r ≡ Equal → P) → (r ≡ Greater → P) → P
@@ -221,3 +223,36 @@ distinct_keys-append {Key} {cmp} order exact xs ys =
     ∙ ap (λ b. b || list_any (λ own. is_eq (cmp q own)) ys) (sym (ties-distinct_keys order q xs))
     ∙ ap (λ b. list_any (λ own. is_eq (cmp q own)) (distinct_keys cmp xs) || b) (sym (ties-distinct_keys order q ys))
     ∙ sym (list_any-append (λ own. is_eq (cmp q own)) (distinct_keys cmp xs) (distinct_keys cmp ys)))
+
+-- the same keys are in a list and among its ascending keys
+pub Contains-distinct_keys_iff : {Key : Type 0} {cmp : Key → Key → Ordering} → IsTotalOrder cmp → IsAntisymmetric cmp → (keys : List Key) (key : Key) → Contains (distinct_keys cmp keys) key ↔ Contains keys key
+Contains-distinct_keys_iff {Key} {cmp} order exact keys key =
+    let told : (x y : Key) → is_eq (cmp x y) ≡ true → x ≡ y = λ x y test. exact x y (equal_from_test (cmp x y) test) in (
+      λ there. Contains-from_any told key keys (sym (ties-distinct_keys order key keys) ∙ list_any-from_Contains (eq_by_cmp_equiv order) key (distinct_keys cmp keys) there),
+      λ there. Contains-from_any told key (distinct_keys cmp keys) (ties-distinct_keys order key keys ∙ list_any-from_Contains (eq_by_cmp_equiv order) key keys there),
+    )
+
+-- two strictly ascending lists with the same members are one
+pub same_from_members : {Key : Type 0} {cmp : Key → Key → Ordering} → IsTotalOrder cmp → IsAntisymmetric cmp → (xs ys : List Key) → IsStrictlySortedBy cmp xs → IsStrictlySortedBy cmp ys → ((key : Key) → Contains xs key ↔ Contains ys key) → xs ≡ ys
+same_from_members {Key} {cmp} order exact xs ys up_xs up_ys same =
+    let told : (x y : Key) → is_eq (cmp x y) ≡ true → x ≡ y = λ x y test. exact x y (equal_from_test (cmp x y) test) in
+    same_from_ties order exact xs ys up_xs up_ys (λ q.
+    both_ways (list_any (λ own. is_eq (cmp q own)) xs) (list_any (λ own. is_eq (cmp q own)) ys)
+    (λ found. list_any-from_Contains (eq_by_cmp_equiv order) q ys ((same q).0 (Contains-from_any told q xs found)))
+    (λ found. list_any-from_Contains (eq_by_cmp_equiv order) q xs ((same q).1 (Contains-from_any told q ys found))))
+
+-- a strictly ascending list with the members of another is that one's ascending keys
+pub distinct_keys-from_members : {Key : Type 0} {cmp : Key → Key → Ordering} → IsTotalOrder cmp → IsAntisymmetric cmp → (keys found : List Key) → IsStrictlySortedBy cmp found → ((key : Key) → Contains found key ↔ Contains keys key) → found ≡ distinct_keys cmp keys
+distinct_keys-from_members {Key} {cmp} order exact keys found sorted same =
+    same_from_members order exact found (distinct_keys cmp keys) sorted (sorted-distinct_keys order keys) (λ key.
+    let own = Contains-distinct_keys_iff order exact keys key in
+    (λ there. own.1 ((same key).0 there), λ there. (same key).1 (own.0 there)))
+
+-- a strictly ascending list that has the keys of another in some order is that one's ascending keys
+pub distinct_keys-from_permutation : {Key : Type 0} {cmp : Key → Key → Ordering} → IsTotalOrder cmp → IsAntisymmetric cmp → (keys found : List Key) → IsStrictlySortedBy cmp found → IsPermutation keys found → found ≡ distinct_keys cmp keys
+distinct_keys-from_permutation {Key} {cmp} order exact keys found sorted moved =
+    sym (distinct_keys-sorted cmp found sorted) ∙ sym (distinct_keys-IsPermutation order exact keys found moved)
+
+-- a rounding that gives each key back leaves strictly ascending keys as they are
+pub rounded_keys-same : {Row Key : Type 0} (cmp : Key → Key → Ordering) (keys : Row → List Key) (row : Row) → IsStrictlySortedBy cmp (keys row) → rounded_keys cmp (λ key. key) keys row ≡ keys row
+rounded_keys-same cmp keys row sorted = ap (distinct_keys cmp) (map-id (keys row)) ∙ distinct_keys-sorted cmp (keys row) sorted

@@ -1,4 +1,5 @@
 pub mod AscendingKeys
+pub mod BottomPairs
 pub mod GroupValues
 pub mod MovedKeys
 pub mod Plain

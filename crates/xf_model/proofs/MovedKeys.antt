@@ -1,8 +1,9 @@
 -- What `moved` says of one filter, of two the other way round, and of rows that are joined.
-use Rattle.std.proofs.Common.{◌≡◌, ℕ, ◌+◌, Bool, true, false, cond, List, [], ◌∷◌, ◌++◌, refl, sym, ap, ◌∙◌, arith}
+use Rattle.std.proofs.Common.{◌≡◌, ℕ, ◌+◌, Bool, true, false, cond, not, List, [], ◌∷◌, ◌++◌, refl, sym, ap, ◌∙◌, arith}
 use Rattle.std.proofs.lemmas.List.Sums.{sum_by-append, sum_by-cons}
 use Rattle.std.specs.List.{sum_by}
-use Rattle.xf_model.specs.Dimension.{Filter}
+use Rattle.xf_model.specs.Dimension.{Filter, all}
+use Rattle.xf_model.specs.Laws.{left_out}
 use Rattle.xf_model.specs.Moved.{exactly_one, moved_keys, moved}
 
 not_both : (a : Bool) → exactly_one a a ≡ false
@@ -50,3 +51,17 @@ moved-swap keys one other rows = sum_by_same (λ row. moved_keys one other (keys
 -- what moves of rows that are joined is what moves of each
 pub moved-append : {Row Key : Type 0} (keys : Row → List Key) (old new : Filter Key) (xs ys : List Row) → moved keys old new (xs ++ ys) ≡ moved keys old new xs + moved keys old new ys
 moved-append keys old new xs ys = sum_by-append (λ row. moved_keys old new (keys row)) xs ys
+
+all_or_not : (a : Bool) → exactly_one a true ≡ not a
+all_or_not true = refl
+all_or_not false = refl
+
+moved_keys-to_all : {Key : Type 0} (chosen : Filter Key) (keys : List Key) → chosen.is_all ≡ false → moved_keys chosen all keys ≡ left_out chosen keys
+moved_keys-to_all chosen [] some = ap (λ a. cond (exactly_one a true) 1 0) some
+moved_keys-to_all chosen (key ∷ keys) some =
+    sum_by_same (λ k. cond (exactly_one (chosen.holds k) true) 1 0) (λ k. cond (not (chosen.holds k)) 1 0)
+    (λ k. ap (λ b. cond b 1 0) (all_or_not (chosen.holds k))) (key ∷ keys)
+
+-- to take a filter away moves what it leaves out
+pub moved-to_all : {Row Key : Type 0} (keys : Row → List Key) (chosen : Filter Key) (rows : List Row) → chosen.is_all ≡ false → moved keys chosen all rows ≡ sum_by (λ row. left_out chosen (keys row)) rows
+moved-to_all keys chosen rows some = sum_by_same (λ row. moved_keys chosen all (keys row)) (λ row. left_out chosen (keys row)) (λ row. moved_keys-to_all chosen (keys row) some) rows

@@ -1,8 +1,8 @@
 -- What `selected` keeps where rows are joined, where no filter is set, and where a dimension is left out.
-use Rattle.std.proofs.Common.{◌≡◌, ℕ, zero, suc, ◌≤◌, Bool, true, false, ◌&&◌, cond, List, [], ◌∷◌, ◌++◌, Option, None, Some, length, refl, sym, ap, ◌∙◌, arith}
+use Rattle.std.proofs.Common.{◌≡◌, ℕ, zero, suc, ◌≤◌, Bool, true, false, ◌&&◌, ◌||◌, cond, List, [], ◌∷◌, ◌++◌, Option, None, Some, length, refl, sym, ap, ◌∙◌, arith}
 use Rattle.std.proofs.lemmas.Bool.{true≢false}
 use Rattle.std.proofs.lemmas.List.Elements.{filter-append}
-use Rattle.std.specs.List.{filter, insert, list_all, remove}
+use Rattle.std.specs.List.{filter, insert, list_all, list_any, remove}
 use Rattle.xf_model.specs.Dimension.{Dimension, all_but, passes, passes_each, selected}
 
 -- the selected of rows that are joined are the selected of each, joined
@@ -84,3 +84,23 @@ pub selected-one_more : {Row Key : Type 0} (dimensions : List (Dimension Row Key
 selected-one_more dimensions own dimension rows within =
     filter_both (passes dimension) (passes_each dimensions) (passes_each (insert dimensions own dimension)) (λ row. list_all-insert (λ d. passes d row) dimensions own dimension within) rows
     ∙ ap (filter (passes dimension)) (sym (selected-insert dimensions own dimension rows within))
+
+and_swap : (a b : Bool) → (a && b) ≡ (b && a)
+and_swap true true = refl
+and_swap true false = refl
+and_swap false true = refl
+and_swap false false = refl
+
+-- of rows that are kept, those are selected that were
+pub selected-filter : {Row Key : Type 0} (dimensions : List (Dimension Row Key)) (but : Option ℕ) (keep : Row → Bool) (rows : List Row) → selected dimensions but (filter keep rows) ≡ filter keep (selected dimensions but rows)
+selected-filter {Row} dimensions but keep rows =
+    let pass : Row → Bool = passes_each (all_but but dimensions) in
+    let both : Row → Bool = λ row. pass row && keep row in
+    sym (filter_both pass keep both (λ row. refl) rows) ∙ filter_both keep pass both (λ row. and_swap (pass row) (keep row)) rows
+
+-- where a dimension's filter is "all", as much is selected without the dimension
+pub selected-insert_all : {Row Key : Type 0} (dimensions : List (Dimension Row Key)) (own : ℕ) (dimension : Dimension Row Key) (rows : List Row) → own ≤ length dimensions → dimension.chosen.is_all ≡ true → selected (insert dimensions own dimension) None rows ≡ selected dimensions None rows
+selected-insert_all dimensions own dimension rows within is_all =
+    selected-one_more dimensions own dimension rows within
+    ∙ filter_whole (passes dimension) (λ row. ap (λ b. b || list_any dimension.chosen.holds (dimension.keys row)) is_all) (selected (insert dimensions own dimension) (Some own) rows)
+    ∙ selected-insert dimensions own dimension rows within

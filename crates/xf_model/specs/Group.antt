@@ -30,6 +30,10 @@ abbrev pub distinct_keys : {Key : Type 0} → (Key → Key → Ordering) → Lis
 distinct_keys cmp [] = []
 distinct_keys cmp (key ∷ keys) = with_key cmp key (distinct_keys cmp keys)
 
+-- the keys of a row in a group whose rounding rounds them: ascending and distinct
+abbrev pub rounded_keys : {Row Key : Type 0} → (Key → Key → Ordering) → (Key → Key) → (Row → List Key) → Row → List Key
+rounded_keys cmp round keys row = distinct_keys cmp (map round (keys row))
+
 -- the keys of a group are those of all rows that are present, whatever the filters
 abbrev pub group_keys : {Row Key : Type 0} → (Key → Key → Ordering) → (Row → List Key) → List Row → List Key
 group_keys cmp keys rows = distinct_keys cmp (flat_map keys rows)

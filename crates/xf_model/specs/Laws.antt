@@ -1,13 +1,14 @@
 -- Laws of the definitions, for rows, keys and values of every type. `laws` in src/ carries each as a clause.
-use Rattle.std.specs.Prelude.{◌≡◌, ℕ, ◌≤◌, ◌+◌, ◌++◌, Bool, true, List, Option, None, Some, All, Contains, filter, fold, insert, length, map}
+use Rattle.std.specs.Prelude.{◌≡◌, ◌↔◌, ℕ, ◌≤◌, ◌+◌, ◌++◌, Bool, true, false, not, List, [], ◌∷◌, Option, None, Some, All, Contains, count_by, filter, fold, insert, length, map, sum_by}
 use Rattle.std.specs.Cmp.{IsTotalOrder}
 use Rattle.std.specs.FinMap.{IsAntisymmetric}
 use Rattle.std.specs.List.{list_all, list_any}
 use Rattle.std.specs.List.Sorted.{IsStrictlySortedBy, IsPermutation}
 use Rattle.std.specs.Ordering.{is_eq}
 use Rattle.std.specs.declared.cmp.Ordering.{Ordering}
-use Rattle.xf_model.specs.Dimension.{Dimension, Filter, passes, selected}
-use Rattle.xf_model.specs.Group.{Reducer, distinct_keys, count, fold_of, group_entries, group_keys, whole_value}
+use Rattle.xf_model.specs.Bottom.{bottom, pair_cmp, pairs_of}
+use Rattle.xf_model.specs.Dimension.{Dimension, Filter, all, passes, selected}
+use Rattle.xf_model.specs.Group.{Reducer, distinct_keys, count, fold_of, group_entries, group_keys, rounded_keys, whole_value}
 use Rattle.xf_model.specs.Moved.{moved}
 use Rattle.xf_model.specs.Replay.{Outcome, progress_after, replay, session_text}
 
@@ -83,6 +84,18 @@ OneMorePasses Row Key =
     (dimensions : List (Dimension Row Key)) (own : ℕ) (dimension : Dimension Row Key) (rows : List Row) → own ≤ length dimensions
     → selected (insert dimensions own dimension) None rows ≡ filter (passes dimension) (selected (insert dimensions own dimension) (Some own) rows)
 
+-- of rows that are kept, those are selected that were
+abbrev pub SelectedKeep : Type 0 → Type 0 → Type 0
+SelectedKeep Row Key =
+    (dimensions : List (Dimension Row Key)) (but : Option ℕ) (keep : Row → Bool) (rows : List Row)
+    → selected dimensions but (filter keep rows) ≡ filter keep (selected dimensions but rows)
+
+-- a dimension whose filter is "all" can go: as much is selected without it
+abbrev pub DisposedLeaves : Type 0 → Type 0 → Type 0
+DisposedLeaves Row Key =
+    (dimensions : List (Dimension Row Key)) (own : ℕ) (dimension : Dimension Row Key) (rows : List Row) → own ≤ length dimensions → dimension.chosen.is_all ≡ true
+    → selected (insert dimensions own dimension) None rows ≡ selected dimensions None rows
+
 -- ---- groups and wholes
 
 -- the count of rows is their number
@@ -110,6 +123,37 @@ EntriesLeaveOwnOut Row Key Value =
     (one other : Dimension Row Key) (rows : List Row) → own ≤ length dimensions
     → group_entries cmp keys reducer (insert dimensions own one) own rows ≡ group_entries cmp keys reducer (insert dimensions own other) own rows
 
+-- a rounding that gives each key back leaves keys that ascend strictly as they are
+abbrev pub SameKeysStay : Type 0 → Type 0 → Type 0
+SameKeysStay Row Key =
+    (cmp : Key → Key → Ordering) (keys : Row → List Key) (row : Row) → IsStrictlySortedBy cmp (keys row) → rounded_keys cmp (λ key. key) keys row ≡ keys row
+
+-- rounded keys ascend strictly
+abbrev pub RoundedKeysAscend : Type 0 → Type 0 → Type 0
+RoundedKeysAscend Row Key =
+    (cmp : Key → Key → Ordering) (round : Key → Key) (keys : Row → List Key) (row : Row) → IsTotalOrder cmp → IsStrictlySortedBy cmp (rounded_keys cmp round keys row)
+
+-- ---- the least keys
+
+-- the pairs of `bottom` ascend strictly
+abbrev pub BottomAscends : Type 0 → Type 0 → Type 0
+BottomAscends Row Key =
+    (cmp : Key → Key → Ordering) (dimensions : List (Dimension Row Key)) (own : Dimension Row Key) (rows : List Row) → IsTotalOrder cmp
+    → IsStrictlySortedBy (pair_cmp cmp) (bottom cmp dimensions own rows)
+
+-- they are the pairs of the selected rows
+abbrev pub BottomHasPairs : Type 0 → Type 0 → Type 0
+BottomHasPairs Row Key =
+    (cmp : Key → Key → Ordering) (dimensions : List (Dimension Row Key)) (own : Dimension Row Key) (rows : List Row) (pair : Key × ℕ)
+    → IsTotalOrder cmp → IsAntisymmetric cmp → Contains (bottom cmp dimensions own rows) pair ↔ Contains (pairs_of dimensions own rows) pair
+
+-- no other strictly ascending pairs are
+abbrev pub PairsAreUnique : Type 0 → Type 0 → Type 0
+PairsAreUnique Row Key =
+    (cmp : Key → Key → Ordering) (dimensions : List (Dimension Row Key)) (own : Dimension Row Key) (rows : List Row) (found : List (Key × ℕ))
+    → IsTotalOrder cmp → IsAntisymmetric cmp → IsStrictlySortedBy (pair_cmp cmp) found
+    → ((pair : Key × ℕ) → Contains found pair ↔ Contains (pairs_of dimensions own rows) pair) → found ≡ bottom cmp dimensions own rows
+
 -- ---- what moves
 
 -- a filter in its own place moves nothing
@@ -125,6 +169,17 @@ abbrev pub MovesJoin : Type 0 → Type 0 → Type 0
 MovesJoin Row Key =
     (keys : Row → List Key) (old new : Filter Key) (xs ys : List Row)
     → moved keys old new (xs ++ ys) ≡ moved keys old new xs + moved keys old new ys
+
+-- the keys of a row that a filter leaves out, and 1 for a row without keys
+abbrev pub left_out : {Key : Type 0} → Filter Key → List Key → ℕ
+left_out chosen [] = 1
+left_out chosen (key ∷ keys) = count_by (λ k. not (chosen.holds k)) (key ∷ keys)
+
+-- to take a filter away moves what it leaves out
+abbrev pub MovesToAll : Type 0 → Type 0 → Type 0
+MovesToAll Row Key =
+    (keys : Row → List Key) (chosen : Filter Key) (rows : List Row) → chosen.is_all ≡ false
+    → moved keys chosen all rows ≡ sum_by (λ row. left_out chosen (keys row)) rows
 
 -- ---- sessions
 

@@ -1,5 +1,6 @@
 pub mod Dimension
 pub mod Group
+pub mod Bottom
 pub mod Moved
 pub mod Replay
 pub mod Laws

@@ -1,44 +1,19 @@
 //! Groups and wholes of rows of numbers: what is counted, key by key and over all.
-ghost use Rattle.std.specs.Prelude.{◌≡◌, ◌<◌, ◌≤◌, ◌++◌, Some, length, slice_get, filter, flat_map, insert, map, MatchOption, IfOk, OnOk, OnErr};
+ghost use Rattle.std.specs.Prelude.{◌≡◌, ◌<◌, ◌++◌, Some, length, slice_get, filter, flat_map, map, IfOk, OnOk};
 ghost use Rattle.std.specs.Ordering.{int_cmp};
 ghost use Rattle.xf_model.specs.Dimension.{selected};
-ghost use Rattle.xf_model.specs.Group.{distinct_keys, with_key, count, fold_of, group_entries, has_key, whole_value};
+ghost use Rattle.xf_model.specs.Group.{distinct_keys, count, fold_of, group_entries, has_key, whole_value};
 ghost use Rattle.xf_model.specs.Plain.{column_keys, keys_of, key_and_number, plain_dimension};
 
+use crate::ascending::insert_key;
 use crate::dimension::{PlainDimension, key_of, passes_all_but, passes_each};
 use std::alloc::{AllocError, Global};
-use std::cmp::Ordering;
 
 /// An entry of a group: a key, and how many rows are counted for it.
 #[derive(Clone, Copy, Debug, PartialEq, Eq)]
 pub struct PlainEntry {
     pub key: i64,
     pub number: u64,
-}
-
-/// The place at which a key enters ascending distinct keys, or None where it is there already.
-fn free_place(keys: &[i64], key: i64) -> Option<usize>
-    ensures { MatchOption result (with_key int_cmp key keys.now ≡ keys.now) (λ place. (place ≤ length keys.now) × (with_key int_cmp key keys.now ≡ insert keys.now place key)) }
-{
-    for (place, own) in keys.iter().enumerate() {
-        match own.cmp(&key) {
-            Ordering::Less => {}
-            Ordering::Equal => return None,
-            Ordering::Greater => return Some(place),
-        }
-    }
-    Some(keys.len())
-}
-
-/// Inserts a key at its place among ascending distinct keys, unless it is there already.
-fn insert_key(keys: &mut Vec<i64>, key: i64) -> Result<(), AllocError>
-    ensures ok { OnOk result (keys.new.items ≡ with_key int_cmp key keys.old.items) }
-    ensures err { OnErr result (keys.new.items ≡ keys.old.items) }
-{
-    if let Some(place) = free_place(keys.as_slice(), key) {
-        keys.insert(place, key)?;
-    }
-    Ok(())
 }
 
 /// The distinct numbers of a list, ascending.

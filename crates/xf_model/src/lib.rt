@@ -7,13 +7,14 @@
 //! std alone.
 #![tactic(auto)]
 
+mod ascending;
+mod bottom;
 mod dimension;
 mod group;
 pub mod laws;
 mod movement;
-#[cfg(test)]
-mod tests;
 
+pub use bottom::{plain_bottom, plain_top};
 pub use dimension::{PlainDimension, PlainRange, passes_each, selected};
 pub use group::{PlainEntry, distinct_keys, group_entries, whole_count};
 pub use movement::moved;
