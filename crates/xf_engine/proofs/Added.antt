@@ -1,69 +1,75 @@
--- Rows that are added: they hold no text, and the table does not refuse them.
-use Rattle.std.proofs.Common.{◌≡◌, ◌≤◌, ◌+◌, ◌*◌, ℕ, nat_lt, Bool, true, false, cond, List, [], ◌∷◌, ◌++◌, length, sum_by, Some, None, refl, ap, subst, arith, length-append}
+-- Rows that are added, or refused.
+use Rattle.std.proofs.Common.{◌≡◌, ◌⊎◌, inl, inr, ⊎_elim, ℕ, ◌+◌, ◌<◌, ◌≤◌, nat_le, nat_lt, Bool, true, false, cond, List, [], ◌++◌, Option, Some, None, length, take, drop, refl, sym, ap, ◌∙◌, arith}
+use Rattle.std.proofs.Math.ListN.{drop_of_length-le}
 use Rattle.std.proofs.lemmas.Bool.Decides.{nat_tests}
-use Rattle.std.proofs.lemmas.List.Sums.{sum_by-cons}
-use Rattle.std.specs.List.{AllByRecursion}
-use Rattle.xf_base.specs.Cell.{cell_bytes, row_bytes}
-use Rattle.xf_base.specs.Schema.{IsCellOf, IsRowOf}
+use Rattle.std.proofs.lemmas.List.{append-nil, take_all}
+use Rattle.std.specs.List.{AllByRecursion, enumerate_from, sum_by}
+use Rattle.xf_base.specs.Schema.{IsRowOf}
 use Rattle.xf_base.specs.declared.cell.Cell.{Cell}
-use Rattle.xf_base.specs.declared.cell.Cell.TheVariants as cell
-use Rattle.xf_base.specs.declared.column.Column.{Column}
-use Rattle.xf_base.specs.declared.column.ColumnKind.{ColumnKind}
-use Rattle.xf_base.specs.declared.column.ColumnKind.TheVariants as kind
-use Rattle.xf_table.specs.Append.{refusal_of}
-use Rattle.xf_table.specs.Table.{Contents, text_of_rows}
-use Rattle.xf_table.proofs.Refusals.{all-append, no_mismatch-from_rows}
-use Rattle.xf_engine.specs.Add.{add_refusal_of, entry_count}
-use Rattle.xf_engine.specs.Cross.{IsCross, IsInt, State}
+use Rattle.xf_base.specs.declared.key.Key.{Key}
+use Rattle.xf_engine.specs.Held.{HoldsKeysOf, IsEntryRefusal, held_count, more_count, state_of}
+use Rattle.xf_engine.specs.Refusals.{add_refusal_after, add_refusal_of, dimension_refusal_of, table_of}
+use Rattle.xf_engine.specs.State.{State, entries_by, entry_count}
+use Rattle.xf_engine.specs.declared.add_refusal.AddRefusal.{AddRefusal}
+use Rattle.xf_engine.specs.declared.add_refusal.AddRefusal.TheVariants as add
+use Rattle.xf_engine.specs.declared.dimension.Dimension.{Dimension}
+use Rattle.xf_engine.specs.declared.dimension_refusal.DimensionRefusal.TheVariants as dimension
+use Rattle.xf_engine.specs.declared.group.Group.{Group}
+use Rattle.xf_engine.proofs.HeldCounts.{held-entries, more-entries}
+use Rattle.xf_table.proofs.Refusals.{rows-from_no_mismatch}
+use Rattle.xf_table.specs.Append.{mismatch_of, refusal_of}
+use Rattle.xf_table.specs.Table.{Contents}
 
--- a cell of whole numbers holds no text
-cell-no_text : (own : ColumnKind) (value : Cell) → own ≡ kind.Int → IsCellOf own value → cell_bytes value ≡ 0
-cell-no_text own (cell.Num number) int of = refl
-cell-no_text own (cell.Text text) int of = absurd (subst (λ k. IsCellOf k (cell.Text text)) int of)
-cell-no_text own (cell.Tags tags) int of = absurd (subst (λ k. IsCellOf k (cell.Tags tags)) int of)
+-- where none of three causes is told, the first does not hold and the last is none
+parts : {E : Type 0} (a b : Bool) (x y : E) (m : Option E) → cond a (Some x) (cond b (Some y) m) ≡ None → (a ≡ false) × (m ≡ None)
+parts true b x y m none = absurd cc
+parts false true x y m none = absurd cc
+parts false false x y m none = (refl, none)
 
--- nor does a row of them
-row-no_text : (columns : List Column) (row : List Cell) → AllByRecursion IsInt columns → IsRowOf columns row → row_bytes row ≡ 0
-row-no_text [] [] ints of = refl
-row-no_text [] (value ∷ row) ints of = absurd of
-row-no_text (column ∷ columns) [] ints of = refl
-row-no_text (column ∷ columns) (value ∷ row) ints of =
-    omega (arith, sum_by-cons cell_bytes value row, cell-no_text column.kind value ints.0 of.0, row-no_text columns row ints.1 of.1)
+-- rows that the table takes are few and of the columns
+pub taken-few : (table : Contents) (rows : List (List Cell)) → refusal_of table rows ≡ None → (length table.rows + length rows ≤ table.limits.rows) × AllByRecursion (IsRowOf table.columns) rows
+taken-few table rows none =
+    let told = parts (nat_lt table.limits.rows (length table.rows + length rows)) _ _ _ (mismatch_of table.columns (enumerate_from 0 rows)) none in
+    (grind (arith, nat_tests, told.0), rows-from_no_mismatch table.columns rows 0 told.1)
 
--- nor do such rows
-rows-no_text : (columns : List Column) (rows : List (List Cell)) → AllByRecursion IsInt columns → AllByRecursion (IsRowOf columns) rows → sum_by row_bytes rows ≡ 0
-rows-no_text columns [] ints of = refl
-rows-no_text columns (row ∷ rows) ints of =
-    omega (arith, sum_by-cons row_bytes row rows, row-no_text columns row ints of.0, rows-no_text columns rows ints of.1)
+-- such rows are taken where the entries stay within the limit
+pub added-rows : {A G : Type 0} (keys_of : A → List Cell → List Key) (state : State A G) (rows : List (List Cell)) → refusal_of (table_of state) rows ≡ None → entry_count keys_of state state.rows + entry_count keys_of state rows ≤ state.limits.entries → add_refusal_of keys_of state rows ≡ None
+added-rows keys_of state rows none room =
+    let test : nat_lt state.limits.entries (entry_count keys_of state state.rows + entry_count keys_of state rows) ≡ false = grind (arith, nat_tests, room) in
+    ap (add_refusal_after keys_of state rows) none
+    ∙ ap (λ b. cond b (Some (add.TooManyEntries (entry_count keys_of state state.rows) (entry_count keys_of state rows) state.limits.entries)) None) test
 
--- where neither of two causes is told, neither holds
-parts : {A : Type 0} (many more : Bool) (first second : A) → cond many (Some first) (cond more (Some second) None) ≡ None → (many ≡ false) × (more ≡ false)
-parts true more first second none = absurd cc
-parts false true first second none = absurd cc
-parts false false first second none = (refl, refl)
+-- and are refused where they do not
+refused-entries : {A G : Type 0} (keys_of : A → List Cell → List Key) (state : State A G) (rows : List (List Cell)) → refusal_of (table_of state) rows ≡ None → state.limits.entries < entry_count keys_of state state.rows + entry_count keys_of state rows → add_refusal_of keys_of state rows ≡ Some (add.TooManyEntries (entry_count keys_of state state.rows) (entry_count keys_of state rows) state.limits.entries)
+refused-entries keys_of state rows none full =
+    let test : nat_lt state.limits.entries (entry_count keys_of state state.rows + entry_count keys_of state rows) ≡ true = grind (arith, nat_tests, full) in
+    ap (add_refusal_after keys_of state rows) none
+    ∙ ap (λ b. cond b (Some (add.TooManyEntries (entry_count keys_of state state.rows) (entry_count keys_of state rows) state.limits.entries)) None) test
 
--- rows that are not refused leave rows and entries within their limits
-pub within : (cross : State) (more : List (List Cell)) → add_refusal_of cross more ≡ None → (length cross.rows + length more ≤ cross.limits.rows) × (entry_count cross cross.rows + entry_count cross more ≤ cross.limits.entries)
-within cross more none =
-    let told = parts (nat_lt cross.limits.rows (length cross.rows + length more)) (nat_lt cross.limits.entries (entry_count cross cross.rows + entry_count cross more)) _ _ none in
-    (grind (arith, nat_tests, told.0), grind (arith, nat_tests, told.1))
+pub refused-rows : {A G : Type 0} (keys_of : A → List Cell → List Key) (table : Contents) (held : List (Dimension A)) (groups : List (Group G)) (rows : List (List Cell)) (cause : AddRefusal) → AllByRecursion (HoldsKeysOf keys_of table.rows) held → refusal_of table rows ≡ None → IsEntryRefusal table.limits.entries (sum_by held_count held) (more_count keys_of rows held) cause → (cause ≡ add.OutOfMemory) ⊎ (add_refusal_of keys_of (state_of table held groups) rows ≡ Some cause)
+refused-rows {A} {G} keys_of table held groups rows cause hold none told =
+    let state : State A G = state_of table held groups in
+    let have : sum_by held_count held ≡ entry_count keys_of state state.rows = held-entries keys_of table.rows held hold in
+    let more : more_count keys_of rows held ≡ entry_count keys_of state rows = more-entries keys_of rows held in
+    ⊎_elim (λ memory. inl memory) (λ full.
+    let same : cause ≡ add.TooManyEntries (entry_count keys_of state state.rows) (entry_count keys_of state rows) table.limits.entries = full.0 ∙ (λ i. add.TooManyEntries (have i) (more i) table.limits.entries) in
+    inr (refused-entries keys_of state rows none (omega (arith, full.1, have, more)) ∙ ap Some (sym same))) told
 
--- the table does not refuse rows of the columns that are few enough
-pub no_refusal : (table : Contents) (more : List (List Cell)) → AllByRecursion IsInt table.columns → AllByRecursion (IsRowOf table.columns) table.rows → AllByRecursion (IsRowOf table.columns) more → length table.rows + length more ≤ table.limits.rows → refusal_of table more ≡ None
-no_refusal table more ints of also few =
-    let many : nat_lt table.limits.rows (length table.rows + length more) ≡ false = grind (arith, nat_tests) in
-    let much : nat_lt table.limits.text_bytes (text_of_rows table.rows + text_of_rows more) ≡ false =
-    grind (arith, nat_tests, rows-no_text table.columns table.rows ints of, rows-no_text table.columns more ints also) in
-    rw (many, much) (no_mismatch-from_rows table.columns more 0 also)
+-- a slice that stands for a whole list
+pub whole-slice : {X : Type 0} (n : ℕ) (xs ys : List X) → length ys ≡ n → length xs ≡ n → take n (ys ++ drop (length ys) xs) ≡ ys
+whole-slice n xs ys new old =
+    let rest : drop (length ys) xs ≡ [] = drop_of_length-le xs (omega (arith, new, old)) in
+    ap (λ zs. take n (ys ++ zs)) rest ∙ ap (take n) (append-nil ys) ∙ take_all n ys (omega (arith, new))
 
--- a crossfilter to which rows are added that are not refused
-pub IsCross-append : (cross : State) (more : List (List Cell)) → IsCross cross.columns cross.limits cross.rows → AllByRecursion (IsRowOf cross.columns) more → add_refusal_of cross more ≡ None → IsCross cross.columns cross.limits (cross.rows ++ more)
-IsCross-append cross more is also none =
-    let room = within cross more none in
-    record {
-      few = is.few;
-      all_int = is.all_int;
-      of_schema = all-append (IsRowOf cross.columns) cross.rows more is.of_schema also;
-      few_rows = omega (arith, length-append cross.rows more, room.0);
-      few_entries = omega (arith, ap (λ (count : ℕ). count * length cross.columns) (length-append cross.rows more), room.1);
-    }
+-- a dimension is refused where its entries would be too many, and taken where neither limit is reached
+pub refused-dimension : {A G : Type 0} (keys_of : A → List Cell → List Key) (state : State A G) (accessor : A) → length state.dimensions < state.limits.dimensions → state.limits.entries < entry_count keys_of state state.rows + entries_by keys_of state.rows accessor → dimension_refusal_of keys_of state accessor ≡ Some (dimension.TooManyEntries (entry_count keys_of state state.rows) (entries_by keys_of state.rows accessor) state.limits.entries)
+refused-dimension keys_of state accessor few full =
+    let first : nat_le state.limits.dimensions (length state.dimensions) ≡ false = grind (arith, nat_tests, few) in
+    let second : nat_lt state.limits.entries (entry_count keys_of state state.rows + entries_by keys_of state.rows accessor) ≡ true = grind (arith, nat_tests, full) in
+    rw (first, second) refl
+
+pub accepted-dimension : {A G : Type 0} (keys_of : A → List Cell → List Key) (state : State A G) (accessor : A) → length state.dimensions < state.limits.dimensions → entry_count keys_of state state.rows + entries_by keys_of state.rows accessor ≤ state.limits.entries → dimension_refusal_of keys_of state accessor ≡ None
+accepted-dimension keys_of state accessor few room =
+    let first : nat_le state.limits.dimensions (length state.dimensions) ≡ false = grind (arith, nat_tests, few) in
+    let second : nat_lt state.limits.entries (entry_count keys_of state state.rows + entries_by keys_of state.rows accessor) ≡ false = grind (arith, nat_tests, room) in
+    rw (first, second) refl

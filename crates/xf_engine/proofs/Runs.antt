@@ -1,119 +1,124 @@
--- The runs of one number in rows that are sorted by their numbers, and what the entries of the rows are.
-use Rattle.std.proofs.Common.{◌≡◌, ℕ, zero, suc, ℤ, ◌+◌, ◌<◌, ◌≤◌, false, ◌&&◌, cond, List, [], ◌∷◌, ◌++◌, map, length, get_or, take, drop, Some, slice_get, refl, sym, ap, subst, ◌∙◌, arith}
+-- The runs of one key in rows that are sorted by their keys, and what the entries of the rows are: for rows and keys of
+-- every type, and every total order of keys that ties only one key with itself.
+use Rattle.std.proofs.Common.{◌≡◌, ℕ, zero, suc, ◌+◌, ◌≤◌, ◌<◌, Bool, false, ◌&&◌, cond, List, [], ◌∷◌, ◌++◌, map, length, get_or, take, drop, Some, slice_get, refl, sym, ap, subst, ◌∙◌, arith}
 use Rattle.std.proofs.lemmas.Bool.{true≢false}
-use Rattle.std.proofs.lemmas.Cmp.{int_cmp_total, tied_itself}
+use Rattle.std.proofs.lemmas.Cmp.{tied_itself}
 use Rattle.std.proofs.lemmas.List.{take-append-drop}
 use Rattle.std.proofs.lemmas.List.Elements.{recursion_from_All}
 use Rattle.std.proofs.lemmas.List.Sums.{sum_by-append, sum_by-cons}
 use Rattle.std.proofs.lemmas.List.Sorted.{ranks_by, sorted_far, IsPermutation-map, sum_by-IsPermutation}
-use Rattle.std.specs.FinMap.{int_cmp-IsAntisymmetric}
+use Rattle.std.specs.Cmp.{IsTotalOrder}
+use Rattle.std.specs.FinMap.{IsAntisymmetric}
 use Rattle.std.specs.List.{AllByRecursion, count_by, prefix_len, sum_by}
 use Rattle.std.specs.List.Sorted.{IsPermutation, IsSortedByKey}
-use Rattle.std.specs.Ordering.{int_cmp, int_eq, is_eq, is_lt, ordering_reverse}
+use Rattle.std.specs.Ordering.{is_eq, is_lt, ordering_reverse}
+use Rattle.std.specs.declared.cmp.Ordering.{Ordering}
 use Rattle.std.specs.declared.cmp.Ordering.TheVariants.{Less, Equal}
-use Rattle.xf_base.specs.declared.key.Key.{Key}
-use Rattle.xf_base.specs.declared.key.Key.TheVariants as key
-use Rattle.xf_engine.specs.declared.group.KeyRow.{KeyRow}
 use Rattle.xf_engine.specs.KeyRow.{count_of, counts_of}
 use Rattle.xf_model.specs.Group.{distinct_keys, with_key}
 use Rattle.xf_model.proofs.AscendingKeys.{all-distinct_keys, all_implies, distinct_keys-IsPermutation, by_order, with_key_least}
 
--- no later number is below an earlier one
-abbrev pub IsRising : List KeyRow → Type 0
-IsRising [] = Unit {0}
-IsRising (row ∷ rows) = AllByRecursion (λ (later : KeyRow). is_lt (int_cmp later.key row.key) ≡ false) rows × IsRising rows
+-- no later key is below an earlier one
+abbrev pub IsRising : {Row Key : Type 0} → (Key → Key → Ordering) → (Row → Key) → List Row → Type 0
+IsRising cmp key_of [] = Unit {0}
+IsRising {Row} cmp key_of (row ∷ rows) = AllByRecursion (λ (later : Row). is_lt (cmp (key_of later) (key_of row)) ≡ false) rows × IsRising cmp key_of rows
 
--- rising numbers, from what holds of any two places
-rising_from_places : (rows : List KeyRow) → ((i j : ℕ) (d : KeyRow) → i ≤ j → j < length rows → is_lt (int_cmp (get_or rows j d).key (get_or rows i d).key) ≡ false) → IsRising rows
-rising_from_places [] places = tt
-rising_from_places (row ∷ rows) places = (
-  recursion_from_All (λ (later : KeyRow). is_lt (int_cmp later.key row.key) ≡ false) rows (λ k d within. places 0 (suc k) d (omega arith) (omega arith)),
-  rising_from_places rows (λ i j d le within. places (suc i) (suc j) d (omega arith) (omega arith)),
+-- rising keys, from what holds of any two places
+rising_from_places : {Row Key : Type 0} (cmp : Key → Key → Ordering) (key_of : Row → Key) (rows : List Row) → ((i j : ℕ) (d : Row) → i ≤ j → j < length rows → is_lt (cmp (key_of (get_or rows j d)) (key_of (get_or rows i d))) ≡ false) → IsRising cmp key_of rows
+rising_from_places cmp key_of [] places = tt
+rising_from_places {Row} cmp key_of (row ∷ rows) places = (
+  recursion_from_All (λ (later : Row). is_lt (cmp (key_of later) (key_of row)) ≡ false) rows (λ k d within. places 0 (suc k) d (omega arith) (omega arith)),
+  rising_from_places cmp key_of rows (λ i j d le within. places (suc i) (suc j) d (omega arith) (omega arith)),
 )
 
--- a sort leaves rising numbers
-pub rising_from_sorted : (rows : List KeyRow) → IsSortedByKey (λ (row : KeyRow). row.key) int_cmp rows → IsRising rows
-rising_from_sorted rows sorted =
-    rising_from_places rows (sorted_far (λ (x y : KeyRow). is_lt (int_cmp x.key y.key)) (ranks_by int_cmp_total (λ (row : KeyRow). row.key)) rows sorted)
+-- a sort leaves rising keys
+pub rising_from_sorted : {Row Key : Type 0} {cmp : Key → Key → Ordering} → IsTotalOrder cmp → (key_of : Row → Key) (rows : List Row) → IsSortedByKey key_of cmp rows → IsRising cmp key_of rows
+rising_from_sorted {Row} {Key} {cmp} order key_of rows sorted =
+    rising_from_places cmp key_of rows (sorted_far (λ (x y : Row). is_lt (cmp (key_of x) (key_of y))) (ranks_by order key_of) rows sorted)
+
+-- rows behind a place rise too
+pub rising_drop : {Row Key : Type 0} (cmp : Key → Key → Ordering) (key_of : Row → Key) (n : ℕ) (rows : List Row) → IsRising cmp key_of rows → IsRising cmp key_of (drop n rows)
+rising_drop cmp key_of zero rows rising = rising
+rising_drop cmp key_of (suc n) [] rising = tt
+rising_drop cmp key_of (suc n) (row ∷ rows) rising = rising_drop cmp key_of n rows rising.1
 
 -- two functions that agree at each element map the list alike
 map_alike : {X Y : Type 0} (f g : X → Y) (xs : List X) → AllByRecursion (λ x. f x ≡ g x) xs → map f xs ≡ map g xs
 map_alike f g [] all = refl
 map_alike f g (x ∷ xs) all = let rest : map f xs ≡ map g xs = map_alike f g xs all.1 in let first : f x ≡ g x = all.0 in cc
 
--- all of the rows have this number
-abbrev Has : ℤ → List KeyRow → Type 0
-Has number rows = AllByRecursion (λ (row : KeyRow). row.key ≡ number) rows
+-- all of the rows have this key
+abbrev Has : {Row Key : Type 0} → (Row → Key) → Key → List Row → Type 0
+Has {Row} key_of key rows = AllByRecursion (λ (row : Row). key_of row ≡ key) rows
 
--- all of the rows have greater numbers
-abbrev Above : ℤ → List KeyRow → Type 0
-Above number rows = AllByRecursion (λ (row : KeyRow). int_cmp number row.key ≡ Less) rows
+-- all of the rows have greater keys
+abbrev Above : {Row Key : Type 0} → (Key → Key → Ordering) → (Row → Key) → Key → List Row → Type 0
+Above {Row} cmp key_of key rows = AllByRecursion (λ (row : Row). cmp key (key_of row) ≡ Less) rows
 
--- how long the run of a number is at the front of rows
-abbrev run : ℤ → List KeyRow → ℕ
-run number rows = prefix_len (λ row. int_eq row.key number) rows
+-- how long the run of a key is at the front of rows
+abbrev pub run : {Row Key : Type 0} → (Key → Key → Ordering) → (Row → Key) → Key → List Row → ℕ
+run cmp key_of key rows = prefix_len (λ row. is_eq (cmp (key_of row) key)) rows
 
--- a row with the number makes the run longer
-run_more : (number : ℤ) (row : KeyRow) (rows : List KeyRow) → int_cmp row.key number ≡ Equal → run number (row ∷ rows) ≡ suc (run number rows)
-run_more number row rows equal = let next : 1 + run number rows ≡ suc (run number rows) = omega arith in rw equal next
+-- a row with the key makes the run longer
+run_more : {Row Key : Type 0} (cmp : Key → Key → Ordering) (key_of : Row → Key) (key : Key) (row : Row) (rows : List Row) → cmp (key_of row) key ≡ Equal → run cmp key_of key (row ∷ rows) ≡ suc (run cmp key_of key rows)
+run_more cmp key_of key row rows equal = let next : 1 + run cmp key_of key rows ≡ suc (run cmp key_of key rows) = omega arith in rw equal next
 
--- a row with another number ends it
-run_ends : (number : ℤ) (row : KeyRow) (rows : List KeyRow) → int_eq row.key number ≡ false → run number (row ∷ rows) ≡ 0
-run_ends number row rows other = rw other
+-- a row with another key ends it
+run_ends : {Row Key : Type 0} (cmp : Key → Key → Ordering) (key_of : Row → Key) (key : Key) (row : Row) (rows : List Row) → is_eq (cmp (key_of row) key) ≡ false → run cmp key_of key (row ∷ rows) ≡ 0
+run_ends cmp key_of key row rows other = rw other
 
--- the rows of the run have its number
-run_has : (number : ℤ) (rows : List KeyRow) → Has number (take (run number rows) rows)
-run_has number [] = tt
-run_has number (row ∷ rows) =
-    by_order (int_cmp row.key number)
-    (λ less. rw (run_ends number row rows (ap is_eq less)) tt)
-    (λ equal. rw (run_more number row rows equal) (int_cmp-IsAntisymmetric row.key number equal, run_has number rows))
-    (λ greater. rw (run_ends number row rows (ap is_eq greater)) tt)
+-- the rows of the run have its key
+run_has : {Row Key : Type 0} {cmp : Key → Key → Ordering} → IsAntisymmetric cmp → (key_of : Row → Key) (key : Key) (rows : List Row) → Has key_of key (take (run cmp key_of key rows) rows)
+run_has exact key_of key [] = tt
+run_has {Row} {Key} {cmp} exact key_of key (row ∷ rows) =
+    by_order (cmp (key_of row) key)
+    (λ less. rw (run_ends cmp key_of key row rows (ap is_eq less)) tt)
+    (λ equal. rw (run_more cmp key_of key row rows equal) (exact (key_of row) key equal, run_has exact key_of key rows))
+    (λ greater. rw (run_ends cmp key_of key row rows (ap is_eq greater)) tt)
 
--- the rows behind the run have greater numbers
-run_below : (number : ℤ) (rows : List KeyRow) → AllByRecursion (λ (row : KeyRow). is_lt (int_cmp row.key number) ≡ false) rows → IsRising rows → Above number (drop (run number rows) rows)
-run_below number [] least rising = tt
-run_below number (row ∷ rows) least rising =
-    by_order (int_cmp row.key number)
+-- a key that is below one that is not above another is below that too
+below_later : {Key : Type 0} {cmp : Key → Key → Ordering} → IsTotalOrder cmp → IsAntisymmetric cmp → (key own later : Key) → cmp key own ≡ Less → is_lt (cmp later own) ≡ false → cmp key later ≡ Less
+below_later {Key} {cmp} order exact key own later below no_less =
+    by_order (cmp later own)
+    (λ less. absurd (true≢false (sym (ap is_lt less) ∙ no_less)))
+    (λ equal. ap (cmp key) (exact later own equal) ∙ below)
+    (λ more. order.trans key own later below (order.antisymm own later ∙ ap ordering_reverse more))
+
+-- the rows behind the run have greater keys
+run_below : {Row Key : Type 0} {cmp : Key → Key → Ordering} → IsTotalOrder cmp → IsAntisymmetric cmp → (key_of : Row → Key) (key : Key) (rows : List Row) → AllByRecursion (λ (row : Row). is_lt (cmp (key_of row) key) ≡ false) rows → IsRising cmp key_of rows → Above cmp key_of key (drop (run cmp key_of key rows) rows)
+run_below order exact key_of key [] least rising = tt
+run_below {Row} {Key} {cmp} order exact key_of key (row ∷ rows) least rising =
+    by_order (cmp (key_of row) key)
     (λ less. absurd (true≢false (sym (ap is_lt less) ∙ least.0)))
-    (λ equal. rw (run_more number row rows equal) (run_below number rows least.1 rising.1))
+    (λ equal. rw (run_more cmp key_of key row rows equal) (run_below order exact key_of key rows least.1 rising.1))
     (λ greater.
-    let above : int_cmp number row.key ≡ Less = int_cmp_total.antisymm number row.key ∙ ap ordering_reverse greater in
-    rw (run_ends number row rows (ap is_eq greater)) (
+    let above : cmp key (key_of row) ≡ Less = order.antisymm key (key_of row) ∙ ap ordering_reverse greater in
+    rw (run_ends cmp key_of key row rows (ap is_eq greater)) (
       above,
-      all_implies (λ (later : KeyRow). is_lt (int_cmp later.key row.key) ≡ false) (λ (later : KeyRow). int_cmp number later.key ≡ Less)
-          (λ later no_less. by_order (int_cmp later.key row.key)
-          (λ less. absurd (true≢false (sym (ap is_lt less) ∙ no_less)))
-          (λ equal. ap (int_cmp number) (int_cmp-IsAntisymmetric later.key row.key equal) ∙ above)
-          (λ more. int_cmp_total.trans number row.key later.key above (int_cmp_total.antisymm row.key later.key ∙ ap ordering_reverse more))) rows rising.0,
+      all_implies (λ (later : Row). is_lt (cmp (key_of later) (key_of row)) ≡ false) (λ (later : Row). cmp key (key_of later) ≡ Less)
+          (λ later no_less. below_later order exact key (key_of row) (key_of later) above no_less) rows rising.0,
     ))
 
--- rows behind a place rise too
-pub rising_drop : (n : ℕ) (rows : List KeyRow) → IsRising rows → IsRising (drop n rows)
-rising_drop zero rows rising = rising
-rising_drop (suc n) [] rising = tt
-rising_drop (suc n) (row ∷ rows) rising = rising_drop n rows rising.1
+-- greater rows have greater keys
+above_keys : {Row Key : Type 0} (cmp : Key → Key → Ordering) (key_of : Row → Key) (key : Key) (rows : List Row) → Above cmp key_of key rows → AllByRecursion (λ other. cmp key other ≡ Less) (map key_of rows)
+above_keys cmp key_of key [] above = tt
+above_keys cmp key_of key (row ∷ rows) above = (above.0, above_keys cmp key_of key rows above.1)
 
--- greater rows have greater numbers
-above_keys : (number : ℤ) (rows : List KeyRow) → Above number rows → AllByRecursion (λ other. int_cmp number other ≡ Less) (map (λ (row : KeyRow). row.key) rows)
-above_keys number [] above = tt
-above_keys number (row ∷ rows) above = (above.0, above_keys number rows above.1)
+-- so have the ascending keys of greater rows
+above_ascending : {Row Key : Type 0} (cmp : Key → Key → Ordering) (key_of : Row → Key) (key : Key) (rows : List Row) → Above cmp key_of key rows → AllByRecursion (λ other. cmp key other ≡ Less) (distinct_keys cmp (map key_of rows))
+above_ascending cmp key_of key rows above = all-distinct_keys cmp (λ other. cmp key other ≡ Less) (map key_of rows) (above_keys cmp key_of key rows above)
 
--- so have the ascending numbers of greater rows
-above_ascending : (number : ℤ) (rows : List KeyRow) → Above number rows → AllByRecursion (λ other. int_cmp number other ≡ Less) (distinct_keys int_cmp (map (λ (row : KeyRow). row.key) rows))
-above_ascending number rows above = all-distinct_keys int_cmp (λ other. int_cmp number other ≡ Less) (map (λ (row : KeyRow). row.key) rows) (above_keys number rows above)
+-- a key that is the first changes nothing
+with_key_first : {Key : Type 0} {cmp : Key → Key → Ordering} → IsTotalOrder cmp → (key : Key) (keys : List Key) → with_key cmp key (key ∷ keys) ≡ key ∷ keys
+with_key_first order key keys = rw (tied_itself order key)
 
--- a number that is the first changes nothing
-with_key_first : (number : ℤ) (numbers : List ℤ) → with_key int_cmp number (number ∷ numbers) ≡ number ∷ numbers
-with_key_first number numbers = rw (tied_itself int_cmp_total number)
-
--- the numbers of a run before greater rows are its number and theirs
-numbers_run : (number : ℤ) (front rest : List KeyRow) → Has number front → Above number rest → with_key int_cmp number (distinct_keys int_cmp (map (λ (row : KeyRow). row.key) (front ++ rest))) ≡ number ∷ distinct_keys int_cmp (map (λ (row : KeyRow). row.key) rest)
-numbers_run number [] rest has above = with_key_least int_cmp number (distinct_keys int_cmp (map (λ (row : KeyRow). row.key) rest)) (above_ascending number rest above)
-numbers_run number (row ∷ front) rest has above =
-    ap (λ own. with_key int_cmp number (with_key int_cmp own (distinct_keys int_cmp (map (λ (row : KeyRow). row.key) (front ++ rest))))) has.0
-    ∙ ap (with_key int_cmp number) (numbers_run number front rest has.1 above)
-    ∙ with_key_first number (distinct_keys int_cmp (map (λ (row : KeyRow). row.key) rest))
+-- the keys of a run before greater rows are its key and theirs
+keys_run : {Row Key : Type 0} {cmp : Key → Key → Ordering} → IsTotalOrder cmp → (key_of : Row → Key) (key : Key) (front rest : List Row) → Has key_of key front → Above cmp key_of key rest → with_key cmp key (distinct_keys cmp (map key_of (front ++ rest))) ≡ key ∷ distinct_keys cmp (map key_of rest)
+keys_run {Row} {Key} {cmp} order key_of key [] rest has above = with_key_least cmp key (distinct_keys cmp (map key_of rest)) (above_ascending cmp key_of key rest above)
+keys_run {Row} {Key} {cmp} order key_of key (row ∷ front) rest has above =
+    ap (λ own. with_key cmp key (with_key cmp own (distinct_keys cmp (map key_of (front ++ rest))))) has.0
+    ∙ ap (with_key cmp key) (keys_run order key_of key front rest has.1 above)
+    ∙ with_key_first order key (distinct_keys cmp (map key_of rest))
 
 -- functions that agree at each element have one sum
 sum_alike : {X : Type 0} (f g : X → ℕ) (xs : List X) → AllByRecursion (λ x. f x ≡ g x) xs → sum_by f xs ≡ sum_by g xs
@@ -125,73 +130,89 @@ sum_none : {X : Type 0} (f : X → ℕ) (xs : List X) → AllByRecursion (λ x. 
 sum_none f [] all = refl
 sum_none f (x ∷ xs) all = omega (arith, sum_by-cons f x xs, all.0, sum_none f xs all.1)
 
--- of rows with a number, those that pass count for it
-count_has : (number : ℤ) (rows : List KeyRow) → Has number rows → count_of rows number ≡ count_by (λ (row : KeyRow). row.passes) rows
-count_has number rows has =
-    sum_alike (λ (row : KeyRow). cond (int_eq number row.key && row.passes) 1 0) (λ (row : KeyRow). cond row.passes 1 0) rows
-    (all_implies (λ (row : KeyRow). row.key ≡ number) (λ (row : KeyRow). cond (int_eq number row.key && row.passes) 1 0 ≡ cond row.passes 1 0)
-    (λ row own. rw (own, tied_itself int_cmp_total number)) rows has)
+-- of rows with a key, those that count do so for it
+count_has : {Row Key : Type 0} {cmp : Key → Key → Ordering} → IsTotalOrder cmp → (key_of : Row → Key) (counts : Row → Bool) (key : Key) (rows : List Row) → Has key_of key rows → count_of cmp key_of counts rows key ≡ count_by counts rows
+count_has {Row} {Key} {cmp} order key_of counts key rows has =
+    sum_alike (λ (row : Row). cond (is_eq (cmp key (key_of row)) && counts row) 1 0) (λ (row : Row). cond (counts row) 1 0) rows
+    (all_implies (λ (row : Row). key_of row ≡ key) (λ (row : Row). cond (is_eq (cmp key (key_of row)) && counts row) 1 0 ≡ cond (counts row) 1 0)
+    (λ row own. rw (own, tied_itself order key)) rows has)
 
--- rows with another number count nothing
-count_other : (number : ℤ) (rows : List KeyRow) → AllByRecursion (λ (row : KeyRow). int_eq number row.key ≡ false) rows → count_of rows number ≡ 0
-count_other number rows other =
-    sum_none (λ (row : KeyRow). cond (int_eq number row.key && row.passes) 1 0) rows
-    (all_implies (λ (row : KeyRow). int_eq number row.key ≡ false) (λ (row : KeyRow). cond (int_eq number row.key && row.passes) 1 0 ≡ 0) (λ row no. rw no) rows other)
+-- rows with another key count nothing
+count_other : {Row Key : Type 0} (cmp : Key → Key → Ordering) (key_of : Row → Key) (counts : Row → Bool) (key : Key) (rows : List Row) → AllByRecursion (λ (row : Row). is_eq (cmp key (key_of row)) ≡ false) rows → count_of cmp key_of counts rows key ≡ 0
+count_other {Row} cmp key_of counts key rows other =
+    sum_none (λ (row : Row). cond (is_eq (cmp key (key_of row)) && counts row) 1 0) rows
+    (all_implies (λ (row : Row). is_eq (cmp key (key_of row)) ≡ false) (λ (row : Row). cond (is_eq (cmp key (key_of row)) && counts row) 1 0 ≡ 0) (λ row no. rw no) rows other)
 
--- a run counts nothing for a greater number
-count_behind : (number other : ℤ) (front rest : List KeyRow) → Has number front → int_cmp number other ≡ Less → count_of (front ++ rest) other ≡ count_of rest other
-count_behind number other front rest has less =
-    let more : int_eq other number ≡ false = ap is_eq (int_cmp_total.antisymm other number ∙ ap ordering_reverse less) in
-    let none : count_of front other ≡ 0 = count_other other front (all_implies (λ (row : KeyRow). row.key ≡ number) (λ (row : KeyRow). int_eq other row.key ≡ false) (λ row own. ap (int_eq other) own ∙ more) front has) in
-    sum_by-append (λ (row : KeyRow). cond (int_eq other row.key && row.passes) 1 0) front rest ∙ omega (arith, none)
+-- a run counts nothing for a greater key
+count_behind : {Row Key : Type 0} {cmp : Key → Key → Ordering} → IsTotalOrder cmp → (key_of : Row → Key) (counts : Row → Bool) (key other : Key) (front rest : List Row) → Has key_of key front → cmp key other ≡ Less → count_of cmp key_of counts (front ++ rest) other ≡ count_of cmp key_of counts rest other
+count_behind {Row} {Key} {cmp} order key_of counts key other front rest has less =
+    let more : is_eq (cmp other key) ≡ false = ap is_eq (order.antisymm other key ∙ ap ordering_reverse less) in
+    let none : count_of cmp key_of counts front other ≡ 0 =
+    count_other cmp key_of counts other front (all_implies (λ (row : Row). key_of row ≡ key) (λ (row : Row). is_eq (cmp other (key_of row)) ≡ false) (λ row own. ap (λ k. is_eq (cmp other k)) own ∙ more) front has) in
+    sum_by-append (λ (row : Row). cond (is_eq (cmp other (key_of row)) && counts row) 1 0) front rest ∙ omega (arith, none)
 
--- greater rows count nothing for the number of a run
-count_ahead : (number : ℤ) (front rest : List KeyRow) → Has number front → Above number rest → count_of (front ++ rest) number ≡ count_by (λ (row : KeyRow). row.passes) front
-count_ahead number front rest has above =
-    let none : count_of rest number ≡ 0 = count_other number rest (all_implies (λ (row : KeyRow). int_cmp number row.key ≡ Less) (λ (row : KeyRow). int_eq number row.key ≡ false) (λ row less. ap is_eq less) rest above) in
-    sum_by-append (λ (row : KeyRow). cond (int_eq number row.key && row.passes) 1 0) front rest ∙ omega (arith, count_has number front has, none)
+-- greater rows count nothing for the key of a run
+count_ahead : {Row Key : Type 0} {cmp : Key → Key → Ordering} → IsTotalOrder cmp → (key_of : Row → Key) (counts : Row → Bool) (key : Key) (front rest : List Row) → Has key_of key front → Above cmp key_of key rest → count_of cmp key_of counts (front ++ rest) key ≡ count_by counts front
+count_ahead {Row} {Key} {cmp} order key_of counts key front rest has above =
+    let none : count_of cmp key_of counts rest key ≡ 0 =
+    count_other cmp key_of counts key rest (all_implies (λ (row : Row). cmp key (key_of row) ≡ Less) (λ (row : Row). is_eq (cmp key (key_of row)) ≡ false) (λ row less. ap is_eq less) rest above) in
+    sum_by-append (λ (row : Row). cond (is_eq (cmp key (key_of row)) && counts row) 1 0) front rest ∙ omega (arith, count_has order key_of counts key front has, none)
 
 -- an entry
-entry : ℤ → ℕ → Key × ℕ
-entry number count = (key.Num number, count)
+entry : {Key : Type 0} → Key → ℕ → Key × ℕ
+entry key count = (key, count)
 
 -- the entries of a run before greater rows are its entry and theirs
-counts_run : (row : KeyRow) (front rest : List KeyRow) → Has row.key front → Above row.key rest → counts_of (row ∷ front ++ rest) ≡ (key.Num row.key, count_by (λ (one : KeyRow). one.passes) (row ∷ front)) ∷ counts_of rest
+counts_run : {Row Key : Type 0} {cmp : Key → Key → Ordering} → IsTotalOrder cmp → (key_of : Row → Key) (counts : Row → Bool) (row : Row) (front rest : List Row) → Has key_of (key_of row) front → Above cmp key_of (key_of row) rest → counts_of cmp key_of counts (row ∷ front ++ rest) ≡ (key_of row, count_by counts (row ∷ front)) ∷ counts_of cmp key_of counts rest
 unfolding entry
-counts_run row front rest has above =
-    let later : List ℤ = distinct_keys int_cmp (map (λ (one : KeyRow). one.key) rest) in
-    let all : ℤ → Key × ℕ = λ number. entry number (count_of (row ∷ front ++ rest) number) in
-    let those : ℤ → Key × ℕ = λ number. entry number (count_of rest number) in
-    ap (map all) (numbers_run row.key front rest has above)
-    ∙ ap (λ n. entry row.key n ∷ map all later) (count_ahead row.key (row ∷ front) rest (refl, has) above)
-    ∙ ap (λ entries. entry row.key (count_by (λ (one : KeyRow). one.passes) (row ∷ front)) ∷ entries)
+counts_run {Row} {Key} {cmp} order key_of counts row front rest has above =
+    let later : List Key = distinct_keys cmp (map key_of rest) in
+    let all : Key → Key × ℕ = λ key. entry key (count_of cmp key_of counts (row ∷ front ++ rest) key) in
+    let those : Key → Key × ℕ = λ key. entry key (count_of cmp key_of counts rest key) in
+    ap (map all) (keys_run order key_of (key_of row) front rest has above)
+    ∙ ap (λ n. entry (key_of row) n ∷ map all later) (count_ahead order key_of counts (key_of row) (row ∷ front) rest (refl, has) above)
+    ∙ ap (λ entries. entry (key_of row) (count_by counts (row ∷ front)) ∷ entries)
     (map_alike all those later
-    (all_implies (λ number. int_cmp row.key number ≡ Less) (λ number. all number ≡ those number)
-    (λ number less. ap (entry number) (count_behind row.key number (row ∷ front) rest (refl, has) less)) later (above_ascending row.key rest above)))
+    (all_implies (λ key. cmp (key_of row) key ≡ Less) (λ key. all key ≡ those key)
+    (λ key less. ap (entry key) (count_behind order key_of counts (key_of row) key (row ∷ front) rest (refl, has) less)) later (above_ascending cmp key_of (key_of row) rest above)))
+
+-- the run of the first row's key has that row
+pub run_begins : {Row Key : Type 0} {cmp : Key → Key → Ordering} → IsTotalOrder cmp → (key_of : Row → Key) (rows : List Row) (first : Row) (n : ℕ) → Some first ≡ slice_get rows 0 → n ≡ run cmp key_of (key_of first) rows → 0 < n
+run_begins order key_of [] first n here length = cc
+run_begins {Row} {Key} {cmp} order key_of (row ∷ rows) first n here length =
+    let same : row ≡ first = cc in
+    let P : Row → Type 0 = λ one. n ≡ run cmp key_of (key_of one) (row ∷ rows) → 0 < n in
+    subst P same (λ long.
+    let more : n ≡ suc (run cmp key_of (key_of row) rows) = long ∙ run_more cmp key_of (key_of row) row rows (tied_itself order (key_of row)) in
+    omega arith) length
 
 -- the entries of rising rows are that of their first run and those of the rows behind it
-counts_front : (row : KeyRow) (rows : List KeyRow) → IsRising (row ∷ rows) → counts_of (row ∷ rows) ≡ (key.Num row.key, count_by (λ (one : KeyRow). one.passes) (take (suc (run row.key rows)) (row ∷ rows))) ∷ counts_of (drop (suc (run row.key rows)) (row ∷ rows))
-counts_front row rows rising =
-    let n : ℕ = run row.key rows in
-    ap (λ later. counts_of (row ∷ later)) (sym (take-append-drop n rows)) ∙ counts_run row (take n rows) (drop n rows) (run_has row.key rows) (run_below row.key rows rising.0 rising.1)
+counts_front : {Row Key : Type 0} {cmp : Key → Key → Ordering} → IsTotalOrder cmp → IsAntisymmetric cmp → (key_of : Row → Key) (counts : Row → Bool) (row : Row) (rows : List Row) → IsRising cmp key_of (row ∷ rows)
+    → counts_of cmp key_of counts (row ∷ rows) ≡ (key_of row, count_by counts (take (suc (run cmp key_of (key_of row) rows)) (row ∷ rows))) ∷ counts_of cmp key_of counts (drop (suc (run cmp key_of (key_of row) rows)) (row ∷ rows))
+counts_front {Row} {Key} {cmp} order exact key_of counts row rows rising =
+    let n : ℕ = run cmp key_of (key_of row) rows in
+    ap (λ later. counts_of cmp key_of counts (row ∷ later)) (sym (take-append-drop n rows))
+    ∙ counts_run order key_of counts row (take n rows) (drop n rows) (run_has exact key_of (key_of row) rows) (run_below order exact key_of (key_of row) rows rising.0 rising.1)
 
 -- the same, where the first row and the length of its run are known by equations
-pub counts_first : (rows : List KeyRow) (first : KeyRow) (n : ℕ) → Some first ≡ slice_get rows 0 → n ≡ run first.key rows → IsRising rows → counts_of rows ≡ (key.Num first.key, count_by (λ (one : KeyRow). one.passes) (take n rows)) ∷ counts_of (drop n rows)
-counts_first [] first n here length rising = cc
-counts_first (row ∷ rows) first n here length rising =
+pub counts_first : {Row Key : Type 0} {cmp : Key → Key → Ordering} → IsTotalOrder cmp → IsAntisymmetric cmp → (key_of : Row → Key) (counts : Row → Bool) (rows : List Row) (first : Row) (n : ℕ) → Some first ≡ slice_get rows 0 → n ≡ run cmp key_of (key_of first) rows → IsRising cmp key_of rows
+    → counts_of cmp key_of counts rows ≡ (key_of first, count_by counts (take n rows)) ∷ counts_of cmp key_of counts (drop n rows)
+counts_first order exact key_of counts [] first n here length rising = cc
+counts_first {Row} {Key} {cmp} order exact key_of counts (row ∷ rows) first n here length rising =
     let same : row ≡ first = cc in
-    let P : KeyRow → Type 0 = λ one. n ≡ run one.key (row ∷ rows) → counts_of (row ∷ rows) ≡ (key.Num one.key, count_by (λ (one : KeyRow). one.passes) (take n (row ∷ rows))) ∷ counts_of (drop n (row ∷ rows)) in
-    subst P same (λ long. let more : n ≡ suc (run row.key rows) = long ∙ run_more row.key row rows (tied_itself int_cmp_total row.key) in rw more (counts_front row rows rising)) length
+    let P : Row → Type 0 = λ one. n ≡ run cmp key_of (key_of one) (row ∷ rows) → counts_of cmp key_of counts (row ∷ rows) ≡ (key_of one, count_by counts (take n (row ∷ rows))) ∷ counts_of cmp key_of counts (drop n (row ∷ rows)) in
+    subst P same (λ long.
+    let more : n ≡ suc (run cmp key_of (key_of row) rows) = long ∙ run_more cmp key_of (key_of row) row rows (tied_itself order (key_of row)) in
+    rw more (counts_front order exact key_of counts row rows rising)) length
 
 -- rows in another order have the same entries
-pub counts_of-IsPermutation : (rows others : List KeyRow) → IsPermutation rows others → counts_of rows ≡ counts_of others
+pub counts_of-IsPermutation : {Row Key : Type 0} {cmp : Key → Key → Ordering} → IsTotalOrder cmp → IsAntisymmetric cmp → (key_of : Row → Key) (counts : Row → Bool) (rows others : List Row) → IsPermutation rows others → counts_of cmp key_of counts rows ≡ counts_of cmp key_of counts others
 unfolding entry
-counts_of-IsPermutation rows others moved =
-    let here : ℤ → Key × ℕ = λ number. entry number (count_of rows number) in
-    let there : ℤ → Key × ℕ = λ number. entry number (count_of others number) in
-    let number_of : KeyRow → ℤ = λ row. row.key in
-    ap (map here) (distinct_keys-IsPermutation int_cmp_total int_cmp-IsAntisymmetric (map number_of rows) (map number_of others) (IsPermutation-map number_of rows others moved))
-    ∙ map_alike here there (distinct_keys int_cmp (map number_of others))
-    (recursion_from_All (λ number. here number ≡ there number) (distinct_keys int_cmp (map number_of others))
-    (λ k d within. let number : ℤ = get_or (distinct_keys int_cmp (map number_of others)) k d in
-    ap (entry number) (sym (sum_by-IsPermutation (λ (row : KeyRow). cond (int_eq number row.key && row.passes) 1 0) rows others moved))))
+counts_of-IsPermutation {Row} {Key} {cmp} order exact key_of counts rows others moved =
+    let here : Key → Key × ℕ = λ key. entry key (count_of cmp key_of counts rows key) in
+    let there : Key → Key × ℕ = λ key. entry key (count_of cmp key_of counts others key) in
+    ap (map here) (distinct_keys-IsPermutation order exact (map key_of rows) (map key_of others) (IsPermutation-map key_of rows others moved))
+    ∙ map_alike here there (distinct_keys cmp (map key_of others))
+    (recursion_from_All (λ key. here key ≡ there key) (distinct_keys cmp (map key_of others))
+    (λ k d within. let key : Key = get_or (distinct_keys cmp (map key_of others)) k d in
+    ap (entry key) (sym (sum_by-IsPermutation (λ (row : Row). cond (is_eq (cmp key (key_of row)) && counts row) 1 0) rows others moved))))

@@ -1,3 +1,8 @@
-pub mod Add
-pub mod Cross
+pub mod KeyRows
+pub mod State
+pub mod Changes
+pub mod Held
+pub mod Answers
 pub mod KeyRow
+pub mod Refusals
+pub mod Listing

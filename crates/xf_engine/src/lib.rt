@@ -1,29 +1,39 @@
-//! The crossfilter over columns of whole numbers: a dimension with its filter, and a group that counts, for each.
+//! The crossfilter: records, dimensions that order and filter them by keys, and groups that count them by keys.
 //!
-//! It stands on the table, and on the definitions of what a crossfilter means. Its one promise: what is present,
-//! the filters, the rows that pass, and the entries of every group are at all times exactly those of the
-//! definitions, and a new filter says exactly how many rows it moves.
+//! It stands on the table, on accessors and roundings, and on the definitions of what a crossfilter means. Its one
+//! promise: the rows that pass, what a new filter moves, the entries of every group, and the rows with the least and the
+//! greatest keys are at all times exactly those of the definitions, whatever lawful accessors and roundings are used.
 //!
 //! ```text
 //! let mut cross = Cross::new(alloc, schema, Limits::standard());
+//! let minutes = cross.add_dimension(StockAccessor::Column(0, whole), &mut steps)?;
+//! let hours = cross.add_group(minutes, StockRounding::Floor(60), &mut steps)?;
 //! cross.add_records(rows, &mut steps)?;
-//! let moved = cross.set_filter(0, 2, 3, &mut steps);        // the numbers from 2 on and below 3 in the first column
-//! let passing = cross.passing_count(&mut steps);            // how many records pass the ranges of all columns
-//! let entries = cross.group_all(alloc, 1, &mut steps)?;     // the second column, under the ranges of the others
+//! let moved = cross.set_filter(minutes, Some((Key::Num(2), Key::Num(3))), &mut steps)?;
+//! let passing = cross.passing_count(&mut steps);        // how many records pass the filters of all dimensions
+//! let entries = cross.group_all(hours, &mut steps)?;    // under the filters of all dimensions but its own
+//! let longest = cross.top(minutes, 10, 0, &mut steps)?; // the places of the ten records with the greatest keys
 //! ```
 #![tactic(auto)]
 
 mod add_refusal;
+mod counts;
 mod cross;
+mod dimension;
+mod dimension_refusal;
+mod entries;
 mod group;
+mod group_refusal;
+mod ids;
 mod key_number;
-mod range;
-mod selection;
+mod key_rows;
+mod list_refusal;
+mod listing;
 
 pub use add_refusal::AddRefusal;
 pub use cross::Cross;
+pub use dimension_refusal::DimensionRefusal;
+pub use group_refusal::{GroupListRefusal, GroupRefusal};
+pub use ids::{DimensionId, GroupId, NoDimension, NoGroup};
 pub use key_number::KeyNumber;
-pub use range::Range;
-
-#[cfg(test)]
-mod tests;
+pub use list_refusal::ListRefusal;

@@ -1,7 +1,8 @@
 use Rattle.std.proofs.Common.{◌≡◌, take}
-use Rattle.xf_engine.specs.KeyRow.{key_rows}
+use Rattle.xf_engine.specs.Held.{live_dimensions}
+use Rattle.xf_engine.specs.KeyRow.{key_rows_at}
 use Rattle.xf_engine.proofs.group.collect_key_rows.Given as goal
 
 -- what is collected so far is that of the rows so far
-abbrev pub invariant-loop-row : goal.invariant-loop-row
-invariant-loop-row l = l.collected.items ≡ key_rows l.ranges l.column (take l.row-index l.rows)
+abbrev pub invariant-loop-place : goal.invariant-loop-place
+invariant-loop-place g l = l.collected.items ≡ key_rows_at g.A.Accessor.keys_of (live_dimensions l.dimensions) (take l.place l.rows) (g.G.Rounding.rounded l.rounding) l.own

@@ -1,0 +1,70 @@
+-- What a state answers about an id, and what stays where none is live.
+use Rattle.std.proofs.Common.{◌≡◌, ℕ, ◌<◌, ◌≤◌, ◌==◌, nat_le, Bool, true, false, not, cond, is_some, List, [], ◌∷◌, Option, Some, None, length, refl, sym, ap, ◌∙◌, arith}
+use Rattle.std.proofs.lemmas.Bool.Decides.{nat_tests}
+use Rattle.std.specs.List.{AllByRecursion, filter, find, position}
+use Rattle.xf_base.specs.declared.key.Key.{Key}
+use Rattle.xf_engine.specs.Changes.{with_range, without_dimension, without_group}
+use Rattle.xf_engine.specs.Refusals.{group_refusal_of}
+use Rattle.xf_engine.specs.State.{LiveDimension, LiveGroup, State, dimension_ids, dimension_place, group_place, has_id, is_taken}
+use Rattle.xf_engine.specs.declared.group_refusal.GroupRefusal.TheVariants as group
+use Rattle.xf_engine.proofs.ById.{apart, filter-free, map-free}
+use Rattle.xf_engine.proofs.FreeId.{free-unplaced}
+use Rattle.xf_engine.proofs.Named.{find-placed, find-unplaced}
+
+-- none where it is not some
+none-of : {X : Type 0} (x : Option X) → is_some x ≡ false → x ≡ None
+none-of None e = refl
+none-of (Some x) e = absurd cc
+
+-- what has a place is found
+some-found : {X : Type 0} (p : X → Bool) (xs : List X) → is_some (position p xs) ≡ true → is_some (find p xs) ≡ true
+some-found p [] some = absurd cc
+some-found p (x ∷ xs) some = go (position p (x ∷ xs)) refl some
+  where
+    go : (at : Option ℕ) → position p (x ∷ xs) ≡ at → is_some at ≡ true → is_some (find p (x ∷ xs)) ≡ true
+    go None e t = absurd cc
+    go (Some place) e t = ap is_some (find-placed p (x ∷ xs) place x e)
+
+-- a group is refused where its dimension is not live, or where there are too many
+pub refused-no_dimension : {A G : Type 0} (state : State A G) (id : ℕ) → is_some (dimension_place state id) ≡ false → group_refusal_of state id ≡ Some (group.NoDimension id)
+refused-no_dimension state id none =
+    ap (λ found. cond (is_some found) (cond (nat_le state.limits.groups (length state.groups)) (Some (group.TooManyGroups state.limits.groups)) None) (Some (group.NoDimension id)))
+    (find-unplaced (has_id id) state.dimensions (none-of (dimension_place state id) none))
+
+pub refused-groups : {A G : Type 0} (state : State A G) (id : ℕ) → is_some (dimension_place state id) ≡ true → state.limits.groups ≤ length state.groups → group_refusal_of state id ≡ Some (group.TooManyGroups state.limits.groups)
+refused-groups state id some full =
+    let test : nat_le state.limits.groups (length state.groups) ≡ true = grind (arith, nat_tests, full) in
+    ap (λ b. cond b (cond (nat_le state.limits.groups (length state.groups)) (Some (group.TooManyGroups state.limits.groups)) None) (Some (group.NoDimension id))) (some-found (has_id id) state.dimensions some)
+    ∙ ap (λ b. cond b (Some (group.TooManyGroups state.limits.groups)) None) test
+
+pub accepted-group : {A G : Type 0} (state : State A G) (id : ℕ) → is_some (dimension_place state id) ≡ true → length state.groups < state.limits.groups → group_refusal_of state id ≡ None
+accepted-group state id some room =
+    let test : nat_le state.limits.groups (length state.groups) ≡ false = grind (arith, nat_tests, room) in
+    ap (λ b. cond b (cond (nat_le state.limits.groups (length state.groups)) (Some (group.TooManyGroups state.limits.groups)) None) (Some (group.NoDimension id))) (some-found (has_id id) state.dimensions some)
+    ∙ ap (λ b. cond b (Some (group.TooManyGroups state.limits.groups)) None) test
+
+-- nothing changes where nothing has the id
+pub no-group : {A G : Type 0} (state : State A G) (id : ℕ) → group_place state id ≡ None → state ≡ without_group state id
+no-group {A} {G} state id none =
+    ap (λ groups. record state { groups = groups }) (sym (filter-free (λ (g : LiveGroup G). g.id) id state.groups (free-unplaced (λ (g : LiveGroup G). g.id) id state.groups none)))
+
+pub no-range : {A G : Type 0} (state : State A G) (id : ℕ) (ends : Option (Key × Key)) → dimension_place state id ≡ None → state ≡ with_range state id ends
+no-range {A} {G} state id ends none =
+    ap (λ dimensions. record state { dimensions = dimensions }) (sym (map-free (λ (d : LiveDimension A). d.id) (λ d. record d { range = ends }) id state.dimensions (free-unplaced (λ (d : LiveDimension A). d.id) id state.dimensions none)))
+
+flip : (a b : ℕ) → (a == b) ≡ false → (b == a) ≡ false
+flip a b e = grind (arith, nat_tests, e)
+
+-- no group is of a dimension that is not live
+no-groups : {G : Type 0} (ids : List ℕ) (id : ℕ) (groups : List (LiveGroup G)) → is_taken ids id ≡ false → AllByRecursion (λ group. is_taken ids group.dimension ≡ true) groups → filter (λ group. not (group.dimension == id)) groups ≡ groups
+no-groups ids id [] free live = refl
+no-groups {G} ids id (group ∷ groups) free live =
+    let other : (group.dimension == id) ≡ false = flip id group.dimension (apart id group.dimension ids free live.0) in
+    let rest : List (LiveGroup G) = filter (λ (g : LiveGroup G). not (g.dimension == id)) groups in
+    ap (λ b. cond (not b) (group ∷ rest) rest) other ∙ ap (λ gs. group ∷ gs) (no-groups ids id groups free live.1)
+
+pub no-dimension : {A G : Type 0} (state : State A G) (id : ℕ) → AllByRecursion (λ (group : LiveGroup G). is_taken (dimension_ids state.dimensions) group.dimension ≡ true) state.groups → dimension_place state id ≡ None → state ≡ without_dimension state id
+no-dimension {A} {G} state id live none =
+    let free : is_taken (dimension_ids state.dimensions) id ≡ false = free-unplaced (λ (d : LiveDimension A). d.id) id state.dimensions none in
+    ap (λ dimensions. record state { dimensions = dimensions }) (sym (filter-free (λ (d : LiveDimension A). d.id) id state.dimensions free))
+    ∙ ap (λ groups. record (without_dimension state id) { groups = groups }) (sym (no-groups (dimension_ids state.dimensions) id state.groups free live))

@@ -1,0 +1,206 @@
+-- A state stays sound under each change.
+use Rattle.std.proofs.Common.{◌≡◌, ℕ, zero, suc, ◌+◌, ◌<◌, ◌≤◌, ◌==◌, Bool, true, false, not, ◌||◌, cond, List, [], ◌∷◌, ◌++◌, Option, None, length, map, get_or, set, refl, sym, ap, subst, ◌∙◌, arith, length-append}
+use Rattle.std.proofs.lemmas.Bool.Decides.{nat_tests}
+use Rattle.std.proofs.lemmas.List.{length-set, map-append}
+use Rattle.std.proofs.lemmas.List.Filters.{length-filter_both, sum_by-filter_both}
+use Rattle.std.proofs.lemmas.List.Folds.{list_any-append}
+use Rattle.std.proofs.lemmas.List.Sums.{sum_by-append, sum_by-cons}
+use Rattle.std.specs.List.{AllByRecursion, filter, sum_by}
+use Rattle.xf_base.specs.Schema.{IsRowOf}
+use Rattle.xf_base.specs.declared.cell.Cell.{Cell}
+use Rattle.xf_base.specs.declared.column.Column.{Column}
+use Rattle.xf_base.specs.declared.key.Key.{Key}
+use Rattle.xf_base.specs.declared.kind.KeyKind.{KeyKind}
+use Rattle.xf_engine.specs.Changes.{with_dimension, with_group, with_rows, without_dimension, without_group}
+use Rattle.xf_engine.specs.State.{AreDistinct, AreEndsOf, IsState, LiveDimension, LiveGroup, State, dimension_ids, entries_by, entry_count, group_ids, is_taken}
+use Rattle.xf_engine.proofs.ById.{all-filter, all-push, all-set, distinct-filter, distinct-push}
+use Rattle.xf_table.proofs.Refusals.{all-append}
+
+-- no more are left than there are
+fewer : {X : Type 0} (p : X → Bool) (xs : List X) → length (filter p xs) ≤ length xs
+fewer p xs = omega (arith, length-filter_both p (λ x. not (p x)) (λ x. refl) xs)
+
+less : {X : Type 0} (f : X → ℕ) (p : X → Bool) (xs : List X) → sum_by f (filter p xs) ≤ sum_by f xs
+less f p xs = omega (arith, sum_by-filter_both p (λ x. not (p x)) (λ x. refl) f xs)
+
+one-more : {X : Type 0} (xs : List X) (x : X) → length (xs ++ x ∷ []) ≡ length xs + 1
+one-more xs x = length-append xs (x ∷ [])
+
+-- what holds of each holds of it in a weaker form
+weaken : {X : Type 0} (P Q : X → Type 0) (xs : List X) → ((x : X) → P x → Q x) → AllByRecursion P xs → AllByRecursion Q xs
+weaken P Q [] weaker all = tt
+weaken P Q (x ∷ xs) weaker all = (weaker x all.0, weaken P Q xs weaker all.1)
+
+-- an id that is taken is taken among more
+still-taken : (ids more : List ℕ) (id : ℕ) → is_taken ids id ≡ true → is_taken (ids ++ more) id ≡ true
+still-taken ids more id taken = list_any-append (λ other. other == id) ids more ∙ ap (λ b. b || is_taken more id) taken
+
+-- and among those of other ids that stay
+taken-others : {X : Type 0} (of : X → ℕ) (gone id : ℕ) (xs : List X) → is_taken (map of xs) id ≡ true → (id == gone) ≡ false → is_taken (map of (filter (λ x. not (of x == gone)) xs)) id ≡ true
+taken-others of gone id [] taken other = absurd cc
+taken-others {X} of gone id (x ∷ xs) taken other = go (of x == gone) (of x == id) refl refl taken (λ t. taken-others of gone id xs t other)
+  where
+    rest : List X
+    rest = filter (λ y. not (of y == gone)) xs
+
+    go : (a b : Bool) → (of x == gone) ≡ a → (of x == id) ≡ b → (b || is_taken (map of xs) id) ≡ true → (is_taken (map of xs) id ≡ true → is_taken (map of rest) id ≡ true) → is_taken (map of (cond (not a) (x ∷ rest) rest)) id ≡ true
+    go true true e f t later = absurd (let both : id ≡ gone = grind (arith, nat_tests, e, f) in let same : (id == gone) ≡ true = grind (arith, nat_tests, both) in let clash : true ≡ false = sym same ∙ other in cc)
+    go true false e f t later = later t
+    go false true e f t later = ap (λ b. b || is_taken (map of rest) id) f
+    go false false e f t later = ap (λ b. b || is_taken (map of rest) id) f ∙ later t
+
+-- with a group more
+pub sound-with_group : {A G : Type 0} (keys_of : A → List Cell → List Key) (fits_to : A → List Column → Bool) (kind_of : A → KeyKind) (state : State A G) (id dimension : ℕ) (rounding : G) → IsState keys_of fits_to kind_of state → is_taken (group_ids state.groups) id ≡ false → is_taken (dimension_ids state.dimensions) dimension ≡ true → length state.groups < state.limits.groups → IsState keys_of fits_to kind_of (with_group state id dimension rounding)
+sound-with_group {A} {G} keys_of fits_to kind_of state id dimension rounding is free taken few =
+    let group : LiveGroup G = record { id = id; dimension = dimension; rounding = rounding } in
+    record {
+      limits = is.limits;
+      of_schema = is.of_schema;
+      fit = is.fit;
+      ends = is.ends;
+      distinct = is.distinct;
+      distinct_groups = subst AreDistinct (sym (map-append (λ (g : LiveGroup G). g.id) state.groups (group ∷ []))) (distinct-push (group_ids state.groups) id is.distinct_groups free);
+      live = all-push (λ (g : LiveGroup G). is_taken (dimension_ids state.dimensions) g.dimension ≡ true) state.groups group is.live taken;
+      few_rows = is.few_rows;
+      few_entries = is.few_entries;
+      few_dimensions = is.few_dimensions;
+      few_groups = omega (arith, one-more state.groups group, few);
+    }
+
+-- without a group
+pub sound-without_group : {A G : Type 0} (keys_of : A → List Cell → List Key) (fits_to : A → List Column → Bool) (kind_of : A → KeyKind) (state : State A G) (id : ℕ) → IsState keys_of fits_to kind_of state → IsState keys_of fits_to kind_of (without_group state id)
+sound-without_group {A} {G} keys_of fits_to kind_of state id is =
+    let stays : LiveGroup G → Bool = λ g. not (g.id == id) in
+    record {
+      limits = is.limits;
+      of_schema = is.of_schema;
+      fit = is.fit;
+      ends = is.ends;
+      distinct = is.distinct;
+      distinct_groups = distinct-filter (λ (g : LiveGroup G). g.id) stays state.groups is.distinct_groups;
+      live = all-filter (λ (g : LiveGroup G). is_taken (dimension_ids state.dimensions) g.dimension ≡ true) stays state.groups is.live;
+      few_rows = is.few_rows;
+      few_entries = is.few_entries;
+      few_dimensions = is.few_dimensions;
+      few_groups = omega (arith, fewer stays state.groups, is.few_groups);
+    }
+
+-- with a dimension more
+pub sound-with_dimension : {A G : Type 0} (keys_of : A → List Cell → List Key) (fits_to : A → List Column → Bool) (kind_of : A → KeyKind) (state : State A G) (id : ℕ) (accessor : A) → IsState keys_of fits_to kind_of state → is_taken (dimension_ids state.dimensions) id ≡ false → fits_to accessor state.columns ≡ true → length state.dimensions < state.limits.dimensions → entry_count keys_of state state.rows + entries_by keys_of state.rows accessor ≤ state.limits.entries → IsState keys_of fits_to kind_of (with_dimension state id accessor)
+sound-with_dimension {A} {G} keys_of fits_to kind_of state id accessor is free fit few room =
+    let live : LiveDimension A = record { id = id; accessor = accessor; range = None } in
+    let ids : dimension_ids (state.dimensions ++ live ∷ []) ≡ dimension_ids state.dimensions ++ id ∷ [] = map-append (λ (d : LiveDimension A). d.id) state.dimensions (live ∷ []) in
+    record {
+      limits = is.limits;
+      of_schema = is.of_schema;
+      fit = all-push (λ (d : LiveDimension A). fits_to d.accessor state.columns ≡ true) state.dimensions live is.fit fit;
+      ends = all-push (λ (d : LiveDimension A). AreEndsOf (kind_of d.accessor) d.range) state.dimensions live is.ends tt;
+      distinct = subst AreDistinct (sym ids) (distinct-push (dimension_ids state.dimensions) id is.distinct free);
+      distinct_groups = is.distinct_groups;
+      live = weaken (λ (g : LiveGroup G). is_taken (dimension_ids state.dimensions) g.dimension ≡ true) (λ (g : LiveGroup G). is_taken (dimension_ids (state.dimensions ++ live ∷ [])) g.dimension ≡ true) state.groups
+          (λ g taken. ap (λ all. is_taken all g.dimension) ids ∙ still-taken (dimension_ids state.dimensions) (id ∷ []) g.dimension taken) is.live;
+      few_rows = is.few_rows;
+      few_entries = omega (arith, sum_by-append (λ (d : LiveDimension A). entries_by keys_of state.rows d.accessor) state.dimensions (live ∷ []), sum_by-cons (λ (d : LiveDimension A). entries_by keys_of state.rows d.accessor) live [], room);
+      few_dimensions = omega (arith, one-more state.dimensions live, few);
+      few_groups = is.few_groups;
+    }
+
+-- the groups of other dimensions are still of live ones
+groups-stay : {A G : Type 0} (gone : ℕ) (dimensions : List (LiveDimension A)) (groups : List (LiveGroup G)) → AllByRecursion (λ group. is_taken (dimension_ids dimensions) group.dimension ≡ true) groups → AllByRecursion (λ group. is_taken (dimension_ids (filter (λ d. not (d.id == gone)) dimensions)) group.dimension ≡ true) (filter (λ group. not (group.dimension == gone)) groups)
+groups-stay gone dimensions [] live = tt
+groups-stay {A} {G} gone dimensions (group ∷ groups) live = go (group.dimension == gone) refl (groups-stay gone dimensions groups live.1)
+  where
+    kept : List (LiveGroup G)
+    kept = filter (λ other. not (other.dimension == gone)) groups
+
+    left : LiveGroup G → Type 0
+    left other = is_taken (dimension_ids (filter (λ d. not (d.id == gone)) dimensions)) other.dimension ≡ true
+
+    go : (b : Bool) → (group.dimension == gone) ≡ b → AllByRecursion left kept → AllByRecursion left (cond (not b) (group ∷ kept) kept)
+    go true e rest = rest
+    go false e rest = (taken-others (λ (d : LiveDimension A). d.id) gone group.dimension dimensions live.0 e, rest)
+
+-- without a dimension and its groups
+pub sound-without_dimension : {A G : Type 0} (keys_of : A → List Cell → List Key) (fits_to : A → List Column → Bool) (kind_of : A → KeyKind) (state : State A G) (id : ℕ) → IsState keys_of fits_to kind_of state → IsState keys_of fits_to kind_of (without_dimension state id)
+sound-without_dimension {A} {G} keys_of fits_to kind_of state id is =
+    let stays : LiveDimension A → Bool = λ d. not (d.id == id) in
+    let elsewhere : LiveGroup G → Bool = λ g. not (g.dimension == id) in
+    record {
+      limits = is.limits;
+      of_schema = is.of_schema;
+      fit = all-filter (λ (d : LiveDimension A). fits_to d.accessor state.columns ≡ true) stays state.dimensions is.fit;
+      ends = all-filter (λ (d : LiveDimension A). AreEndsOf (kind_of d.accessor) d.range) stays state.dimensions is.ends;
+      distinct = distinct-filter (λ (d : LiveDimension A). d.id) stays state.dimensions is.distinct;
+      distinct_groups = distinct-filter (λ (g : LiveGroup G). g.id) elsewhere state.groups is.distinct_groups;
+      live = groups-stay id state.dimensions state.groups is.live;
+      few_rows = is.few_rows;
+      few_entries = omega (arith, less (λ (d : LiveDimension A). entries_by keys_of state.rows d.accessor) stays state.dimensions, is.few_entries);
+      few_dimensions = omega (arith, fewer stays state.dimensions, is.few_dimensions);
+      few_groups = omega (arith, fewer elsewhere state.groups, is.few_groups);
+    }
+
+-- a list with another element in a place, where a value is the same
+sum-set : {X : Type 0} (f : X → ℕ) (xs : List X) (i : ℕ) (y d : X) → i < length xs → f y ≡ f (get_or xs i d) → sum_by f (set xs i y) ≡ sum_by f xs
+sum-set f [] i y d e same = absurd (omega (arith, e))
+sum-set f (x ∷ xs) zero y d e same = omega (arith, sum_by-cons f y xs, sum_by-cons f x xs, same)
+sum-set f (x ∷ xs) (suc i) y d e same = omega (arith, sum_by-cons f x (set xs i y), sum_by-cons f x xs, sum-set f xs i y d (omega (arith, e)) same)
+
+set-same : {X Y : Type 0} (f : X → Y) (xs : List X) (i : ℕ) (y d : X) → f y ≡ f (get_or xs i d) → map f (set xs i y) ≡ map f xs
+set-same f [] zero y d same = refl
+set-same f [] (suc i) y d same = refl
+set-same f (x ∷ xs) zero y d same = ap (λ first. first ∷ map f xs) same
+set-same f (x ∷ xs) (suc i) y d same = ap (λ rest. f x ∷ rest) (set-same f xs i y d same)
+
+all-get : {X : Type 0} (P : X → Type 0) (xs : List X) (i : ℕ) (d : X) → i < length xs → AllByRecursion P xs → P (get_or xs i d)
+all-get P [] i d e all = absurd (omega (arith, e))
+all-get P (x ∷ xs) zero d e all = all.0
+all-get P (x ∷ xs) (suc i) d e all = all-get P xs i d (omega (arith, e)) all.1
+
+-- with another range on the dimension at a place
+pub sound-ranged : {A G : Type 0} (keys_of : A → List Cell → List Key) (fits_to : A → List Column → Bool) (kind_of : A → KeyKind) (state : State A G) (place : ℕ) (d : LiveDimension A) (ends : Option (Key × Key)) → IsState keys_of fits_to kind_of state → place < length state.dimensions → AreEndsOf (kind_of (get_or state.dimensions place d).accessor) ends → IsState keys_of fits_to kind_of (record state { dimensions = set state.dimensions place (record (get_or state.dimensions place d) { range = ends }) })
+sound-ranged {A} {G} keys_of fits_to kind_of state place d ends is within of_kind =
+    let now : LiveDimension A = record (get_or state.dimensions place d) { range = ends } in
+    let ids : dimension_ids (set state.dimensions place now) ≡ dimension_ids state.dimensions = set-same (λ (x : LiveDimension A). x.id) state.dimensions place now d refl in
+    record {
+      limits = is.limits;
+      of_schema = is.of_schema;
+      fit = all-set (λ (x : LiveDimension A). fits_to x.accessor state.columns ≡ true) state.dimensions place now is.fit (all-get (λ (x : LiveDimension A). fits_to x.accessor state.columns ≡ true) state.dimensions place d within is.fit);
+      ends = all-set (λ (x : LiveDimension A). AreEndsOf (kind_of x.accessor) x.range) state.dimensions place now is.ends of_kind;
+      distinct = subst AreDistinct (sym ids) is.distinct;
+      distinct_groups = is.distinct_groups;
+      live = weaken (λ (g : LiveGroup G). is_taken (dimension_ids state.dimensions) g.dimension ≡ true) (λ (g : LiveGroup G). is_taken (dimension_ids (set state.dimensions place now)) g.dimension ≡ true) state.groups (λ g taken. ap (λ all. is_taken all g.dimension) ids ∙ taken) is.live;
+      few_rows = is.few_rows;
+      few_entries = omega (arith, sum-set (λ (x : LiveDimension A). entries_by keys_of state.rows x.accessor) state.dimensions place now d within refl, is.few_entries);
+      few_dimensions = omega (arith, length-set state.dimensions place now, is.few_dimensions);
+      few_groups = is.few_groups;
+    }
+
+-- the entries of joined rows
+pub entries-append : {A : Type 0} (keys_of : A → List Cell → List Key) (dimensions : List (LiveDimension A)) (rows more : List (List Cell)) → sum_by (λ live. entries_by keys_of (rows ++ more) live.accessor) dimensions ≡ sum_by (λ live. entries_by keys_of rows live.accessor) dimensions + sum_by (λ live. entries_by keys_of more live.accessor) dimensions
+entries-append keys_of [] rows more = refl
+entries-append {A} keys_of (live ∷ dimensions) rows more =
+    omega (
+      arith,
+      sum_by-cons (λ (d : LiveDimension A). entries_by keys_of (rows ++ more) d.accessor) live dimensions,
+      sum_by-cons (λ (d : LiveDimension A). entries_by keys_of rows d.accessor) live dimensions,
+      sum_by-cons (λ (d : LiveDimension A). entries_by keys_of more d.accessor) live dimensions,
+      sum_by-append (λ row. length (keys_of live.accessor row)) rows more,
+      entries-append keys_of dimensions rows more,
+    )
+
+-- with rows more
+pub sound-with_rows : {A G : Type 0} (keys_of : A → List Cell → List Key) (fits_to : A → List Column → Bool) (kind_of : A → KeyKind) (state : State A G) (more : List (List Cell)) → IsState keys_of fits_to kind_of state → AllByRecursion (IsRowOf state.columns) more → length state.rows + length more ≤ state.limits.rows → entry_count keys_of state state.rows + entry_count keys_of state more ≤ state.limits.entries → IsState keys_of fits_to kind_of (with_rows state more)
+sound-with_rows {A} {G} keys_of fits_to kind_of state more is also few room =
+    record {
+      limits = is.limits;
+      of_schema = all-append (IsRowOf state.columns) state.rows more is.of_schema also;
+      fit = is.fit;
+      ends = is.ends;
+      distinct = is.distinct;
+      distinct_groups = is.distinct_groups;
+      live = is.live;
+      few_rows = omega (arith, length-append state.rows more, few);
+      few_entries = omega (arith, entries-append keys_of state.dimensions state.rows more, room);
+      few_dimensions = is.few_dimensions;
+      few_groups = is.few_groups;
+    }

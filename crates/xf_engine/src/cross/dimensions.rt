@@ -1,0 +1,75 @@
+//! Dimensions that come and go.
+ghost use Rattle.std.specs.Prelude.{◌≡◌, ◌⊎◌, ◌<◌, ◌^◌, true, length, IfErr, IfOk, OnErr, OnOk, Some, None};
+
+use crate::counts::moved_count;
+use crate::cross::Cross;
+use crate::dimension::{Dimension, free_dimension_id};
+use crate::dimension_refusal::DimensionRefusal;
+use crate::entries::{entry_count, keys_of_rows};
+use crate::group::drop_groups_of;
+use crate::ids::{DimensionId, NoDimension};
+use std::sync::ledger::Ledger;
+use xf_access::{Accessor, Rounding};
+use xf_base::Steps;
+
+impl<A: Accessor, G: Rounding> Cross<A, G> {
+    ghost use Rattle.xf_engine.specs.Answers.{moved_by};
+    ghost use Rattle.xf_engine.specs.Changes.{with_dimension, without_dimension};
+    ghost use Rattle.xf_engine.specs.Refusals.{dimension_refusal_of, no_dimension, unless_none};
+    ghost use Rattle.xf_engine.specs.State.{IsFreeId, dimension_ids};
+
+    /// Adds a dimension, without a filter. Its id is the least that no live dimension has. The accessor is asked for the
+    /// keys of each record once, here or when the record comes.
+    pub fn add_dimension<L: Ledger>(
+        &mut self,
+        accessor: A,
+        steps: &mut Steps<L>,
+    ) -> Result<DimensionId, DimensionRefusal>
+        requires { A.fits_to accessor self.old.columns ≡ true }
+        ensures ok { IfOk result (λ id. self.new ≡ with_dimension self.old id.0 accessor) }
+        ensures id { IfOk result (λ id. IsFreeId (dimension_ids self.old.dimensions) id.0) }
+        ensures accepted { OnOk result (dimension_refusal_of A.keys_of self.old accessor ≡ None) }
+        ensures refused { IfErr result (λ cause. (cause ≡ DimensionRefusal.OutOfMemory) ⊎ (dimension_refusal_of A.keys_of self.old accessor ≡ Some cause)) }
+        ensures err { OnErr result (self.new ≡ self.old) }
+    {
+        let limit = self.table.limits().dimensions;
+        if self.dimensions.len() as u64 >= limit {
+            return Err(DimensionRefusal::TooManyDimensions { limit });
+        }
+        let keys = keys_of_rows(self.alloc, &accessor, self.table.rows(steps).as_slice())?;
+        let have = entry_count(self.dimensions.as_slice());
+        let more = keys.key_count() as u64;
+        let limit = self.table.limits().entries;
+        if more > limit - have {
+            return Err(DimensionRefusal::TooManyEntries { have, more, limit });
+        }
+        let id = free_dimension_id(self.dimensions.as_slice());
+        self.dimensions.push(Dimension {
+            id,
+            accessor,
+            range: None,
+            keys,
+        })?;
+        Ok(id)
+    }
+
+    /// Takes a dimension away, with its filter and its groups. Gives how much taking its filter away moves.
+    pub fn dispose_dimension<L: Ledger>(
+        &mut self,
+        id: DimensionId,
+        steps: &mut Steps<L>,
+    ) -> Result<u64, NoDimension>
+        ensures moved { result ≡ unless_none (no_dimension id.0) (moved_by A.keys_of self.old id.0 None) }
+        ensures state { self.new ≡ without_dimension self.old id.0 }
+    {
+        let Some(place) = self.place_of(id) else {
+            return Err(NoDimension { id: id.0 });
+        };
+        steps.tick_by(self.table.len() as u64);
+        let dimension = &self.dimensions[place];
+        let moved = moved_count(&dimension.keys, &dimension.range, &None);
+        self.dimensions.remove(place);
+        drop_groups_of(&mut self.groups, id);
+        Ok(moved)
+    }
+}

@@ -1,0 +1,79 @@
+//! The keys that dimensions hold of each row: an entry for each.
+ghost use Rattle.std.specs.Prelude.{◌≡◌, ◌≤◌, ◌++◌, IfOk, OnOk, length, map, sum_by, take};
+ghost use Rattle.xf_base.specs.declared.limits.TheConstants.Limits.{DIMENSIONS};
+ghost use Rattle.xf_engine.specs.Held.{HoldEach, held_count, kept_keys, with_keys_of};
+
+use crate::dimension::Dimension;
+use crate::key_rows::KeyRows;
+use std::alloc::Global;
+use xf_access::Accessor;
+use xf_base::{OutOfMemory, Row};
+
+/// How many keys the dimensions hold together.
+pub fn entry_count<A>(dimensions: &[Dimension<A>]) -> u64
+    requires few { length dimensions.now ≤ DIMENSIONS }
+    ensures { result ≡ sum_by held_count dimensions.now }
+{
+    let mut count = 0;
+    for dimension in dimensions {
+        count += dimension.keys.key_count() as u64;
+    }
+    count
+}
+
+/// Puts the keys of more rows after those of `count` rows, in each dimension. Without memory for them some may stand there.
+pub fn add_keys<A: Accessor>(
+    alloc: Global,
+    dimensions: &mut [Dimension<A>],
+    count: usize,
+    rows: &[Row],
+) -> Result<(), OutOfMemory>
+    requires { HoldEach count dimensions.old }
+    ensures ok { OnOk result (dimensions.new ≡ map (with_keys_of A.keys_of rows.now) dimensions.old) }
+    ensures kept { map (kept_keys count) dimensions.new ≡ dimensions.old }
+{
+    for place in 0..dimensions.len() {
+        let dimension = &mut dimensions[place];
+        push_keys(alloc, &dimension.accessor, &mut dimension.keys, rows)?;
+    }
+    Ok(())
+}
+
+/// Keeps the keys of the first `count` rows in each dimension.
+pub fn keep_keys<A>(dimensions: &mut [Dimension<A>], count: usize)
+    ensures { dimensions.new ≡ map (kept_keys count) dimensions.old }
+{
+    for place in 0..dimensions.len() {
+        let dimension = &mut dimensions[place];
+        dimension.keys.truncate(count);
+    }
+}
+
+/// The keys of each row.
+pub fn keys_of_rows<A: Accessor>(
+    alloc: Global,
+    accessor: &A,
+    rows: &[Row],
+) -> Result<KeyRows, OutOfMemory>
+    ensures { IfOk result (λ keys. keys ≡ map (A.keys_of accessor.now) rows.now) }
+{
+    let mut keys = KeyRows::new(alloc);
+    push_keys(alloc, accessor, &mut keys, rows)?;
+    Ok(keys)
+}
+
+/// Puts the keys of each row at the end. Without memory for all, those of some may stand there.
+fn push_keys<A: Accessor>(
+    alloc: Global,
+    accessor: &A,
+    keys: &mut KeyRows,
+    rows: &[Row],
+) -> Result<(), OutOfMemory>
+    ensures ok { OnOk result (keys.new ≡ keys.old ++ map (A.keys_of accessor.now) rows.now) }
+    ensures kept { take (length keys.old) keys.new ≡ keys.old }
+{
+    for row in rows {
+        keys.push(accessor.keys(alloc, row)?)?;
+    }
+    Ok(())
+}
