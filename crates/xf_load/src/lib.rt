@@ -8,8 +8,6 @@ mod cell;
 mod load;
 mod record_reader;
 mod tags;
-#[cfg(test)]
-mod tests;
 
 pub use cell::{CellRefusal, ReadCellFault, read_cell};
 pub use load::{LoadRefusal, Loaded, records_of, records_within};

@@ -163,20 +163,20 @@ fn row_of(
     places: &[usize],
     width: usize,
     number: u64,
-    record: &ByteRecord,
+    fields: &ByteRecord,
 ) -> Result<Row, LoadRefusal>
     requires columns { AllByRecursion IsColumn columns.now }
     requires places { length places.now ≡ length columns.now }
     ensures row { (result ≡ Err LoadRefusal.OutOfMemory)
-        ⊎ (result ≡ row_of columns.now places.now width (number, fields_of record.now)) }
+        ⊎ (result ≡ row_of columns.now places.now width (number, fields_of fields.now)) }
     ensures of_columns { IfOk result (IsRowOf columns.now) }
 {
-    if record.len() != width {
+    if fields.len() != width {
         return Err(LoadRefusal::UnevenRecord { number });
     }
     let mut cells = Vec::with_capacity(alloc, columns.len())?;
     for (column, place) in columns.iter().zip(places) {
-        let cell = cell_at(alloc, record, number, cells.len(), column, *place)?;
+        let cell = cell_at(alloc, fields, number, cells.len(), column, *place)?;
         cells.push(cell)?;
     }
     Ok(ListOf::from_vec(cells))
@@ -185,7 +185,7 @@ fn row_of(
 /// The cell of the column `index`, whose field stands at a place of the record of this number.
 fn cell_at(
     alloc: Global,
-    record: &ByteRecord,
+    fields: &ByteRecord,
     number: u64,
     index: usize,
     column: &Column,
@@ -193,10 +193,10 @@ fn cell_at(
 ) -> Result<Cell, LoadRefusal>
     requires { IsColumn column.now }
     ensures cell { (result ≡ Err LoadRefusal.OutOfMemory)
-        ⊎ (result ≡ cell_at number (fields_of record.now) (index, (column.now, place))) }
+        ⊎ (result ≡ cell_at number (fields_of fields.now) (index, (column.now, place))) }
     ensures of_column { IfOk result (IsCellOf column.now.kind) }
 {
-    let field = record.get(place).unwrap_or(&[]);
+    let field = fields.get(place).unwrap_or(&[]);
     match read_cell(alloc, column, field) {
         Ok(cell) => Ok(cell),
         Err(ReadCellFault::Bad(why)) => Err(LoadRefusal::BadCell {

@@ -10,6 +10,3 @@ mod table;
 
 pub use append_refusal::AppendRefusal;
 pub use table::Table;
-
-#[cfg(test)]
-mod tests;

@@ -18,7 +18,7 @@ pub loop-column-preserved : goal.loop-column-preserved
 loop-column-preserved c =
     let columns = c.args.columns.now in
     let places = c.args.places.now in
-    let fields = fields_of c.args.record.now in
+    let fields = fields_of c.args.fields.now in
     let n = length c.loop-column.yielded in
     let first : iter_rest (zip_first c.into_iter-column-iterator.result) ≡ columns = search rules in
     let second : iter_rest (zip_second c.into_iter-column-iterator.result) ≡ places = search rules in
@@ -40,7 +40,7 @@ pub returns-in_err-cell-clause-row : goal.returns-in_err-cell-clause-row
 returns-in_err-cell-clause-row c =
     let columns = c.args.columns.now in
     let places = c.args.places.now in
-    let fields = fields_of c.args.record.now in
+    let fields = fields_of c.args.fields.now in
     let n = length c.loop-column.yielded in
     let first : iter_rest (zip_first c.into_iter-column-iterator.result) ≡ columns = search rules in
     let second : iter_rest (zip_second c.into_iter-column-iterator.result) ≡ places = search rules in
@@ -60,7 +60,7 @@ pub returns-clause-row : goal.returns-clause-row
 returns-clause-row c =
     let columns = c.args.columns.now in
     let places = c.args.places.now in
-    let fields = fields_of c.args.record.now in
+    let fields = fields_of c.args.fields.now in
     let first : iter_rest (zip_first c.into_iter-column-iterator.result) ≡ columns = search rules in
     let second : iter_rest (zip_second c.into_iter-column-iterator.result) ≡ places = search rules in
     let end = zip_end columns places c.loop-column.yielded c.into_iter-column-iterator.result c.loop-column.column-iterator c.next.new.self c.next.result first second c.loop-column.yielded_by c.in-None.is c.next.ensures.steps in

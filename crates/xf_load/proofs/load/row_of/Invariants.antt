@@ -9,7 +9,7 @@ use Rattle.xf_load.proofs.load.row_of.Given as goal
 
 abbrev pub invariant-loop-column : goal.invariant-loop-column
 invariant-loop-column l = record {
-  read : IsReadTo (cell_at l.number (fields_of l.record)) (enumerate_from 0 (zip l.columns l.places)) l.cells.items (length l.yielded);
+  read : IsReadTo (cell_at l.number (fields_of l.fields)) (enumerate_from 0 (zip l.columns l.places)) l.cells.items (length l.yielded);
   count : vec_len l.cells ≡ length l.yielded;
   of_columns : IsRowOf (take (length l.yielded) l.columns) l.cells.items;
 }

@@ -1,9 +1,10 @@
 //! Cells of fields.
 use super::{one_tag, shown};
-use crate::{CellRefusal, ReadCellFault, read_cell};
+use crate::see::see_text;
 use std::alloc::Global;
 use std::test::Fail;
 use xf_base::{Cell, Column, ColumnKind, Text};
+use xf_load::{CellRefusal, ReadCellFault, read_cell};
 
 fn column(alloc: Global, kind: ColumnKind, blank: Option<Cell>) -> Result<Column, Fail> {
     Ok(Column {
@@ -145,45 +146,55 @@ fn reads_fields(rt: HostRuntime) -> Result<(), Fail> {
     for (name, kind, field, want) in &FIELDS {
         let column = column(rt.alloc(), *kind, None)?;
         let text = answer(rt.alloc(), &column, field)?;
-        assert_eq!(rt; text.as_str(), *want, "{name}");
+        see_text(&rt, name, text.as_bytes(), want)?;
     }
     Ok(())
 }
+
+/// The blank cell of a column of a kind.
+fn blank(alloc: Global, kind: ColumnKind) -> Result<Cell, Fail> {
+    match kind {
+        ColumnKind::Text => Ok(Cell::Text(Text::of(alloc, "none")?)),
+        ColumnKind::Tags(_) => one_tag(alloc, "none"),
+        ColumnKind::Date => Ok(Cell::Num(0)),
+        ColumnKind::Int | ColumnKind::Fixed(_) => Ok(Cell::Num(-1)),
+    }
+}
+
+/// A name, a kind of column that has a blank cell, a field, and its cell.
+static BLANKS: [(&str, ColumnKind, &[u8], &str); 12] = [
+    ("empty number", ColumnKind::Int, b"", "-1"),
+    ("blank number", ColumnKind::Int, b"  ", "-1"),
+    ("number", ColumnKind::Int, b" 3 ", "3"),
+    ("no number", ColumnKind::Int, b"\t", "not a number"),
+    ("bytes", ColumnKind::Int, b" \xFF", "not utf8"),
+    ("blank date", ColumnKind::Date, b" ", "0"),
+    ("no date", ColumnKind::Date, b"x", "not a date"),
+    ("empty text", ColumnKind::Text, b"", "|none|"),
+    ("blank text", ColumnKind::Text, b" ", "|none|"),
+    ("text", ColumnKind::Text, b" x", "| x|"),
+    ("blank tags", TAGS, b" ", "tags|none|"),
+    ("empty pieces alone", TAGS, b";", "tags"),
+];
 
 #[test]
 fn blank_fields_give_the_blank(rt: HostRuntime) -> Result<(), Fail> {
-    let alloc = rt.alloc();
-    let number = column(alloc, ColumnKind::Int, Some(Cell::Num(-1)))?;
-    let day = column(alloc, ColumnKind::Date, Some(Cell::Num(0)))?;
-    let none = Cell::Text(Text::of(alloc, "none")?);
-    let text = column(alloc, ColumnKind::Text, Some(none))?;
-    let tags = column(alloc, ColumnKind::Tags(b';'), Some(one_tag(alloc, "none")?))?;
-    let cases: [(&str, &Column, &[u8], &str); 12] = [
-        ("empty number", &number, b"", "-1"),
-        ("blank number", &number, b"  ", "-1"),
-        ("number", &number, b" 3 ", "3"),
-        ("no number", &number, b"\t", "not a number"),
-        ("bytes", &number, b" \xFF", "not utf8"),
-        ("blank date", &day, b" ", "0"),
-        ("no date", &day, b"x", "not a date"),
-        ("empty text", &text, b"", "|none|"),
-        ("blank text", &text, b" ", "|none|"),
-        ("text", &text, b" x", "| x|"),
-        ("blank tags", &tags, b" ", "tags|none|"),
-        ("empty pieces alone", &tags, b";", "tags"),
-    ];
-    for (name, column, field, want) in cases {
-        let text = answer(alloc, column, field)?;
-        assert_eq!(rt; text.as_str(), want, "{name}");
+    for (name, kind, field, want) in &BLANKS {
+        let blank = blank(rt.alloc(), *kind)?;
+        let column = column(rt.alloc(), *kind, Some(blank))?;
+        let text = answer(rt.alloc(), &column, field)?;
+        see_text(&rt, name, text.as_bytes(), want)?;
     }
     Ok(())
 }
 
-/// Tags `0` to `count - 1`, each with a separator after it, and then so many blanks.
-fn many_tags(alloc: Global, count: usize, blanks: usize) -> Result<Vec<u8>, Fail> {
+/// Tags `0` to `count - 1`, each with a separator after it, so many times, and then so many blanks.
+fn many_tags(alloc: Global, count: usize, times: usize, blanks: usize) -> Result<Vec<u8>, Fail> {
     let mut field = Vec::new(alloc);
-    for number in 0..count {
-        field.extend_from_slice(format!(in alloc; "{number};")?.as_bytes())?;
+    for _ in 0..times {
+        for number in 0..count {
+            field.extend_from_slice(format!(in alloc; "{number};")?.as_bytes())?;
+        }
     }
     for _ in 0..blanks {
         field.push(b' ')?;
@@ -191,72 +202,70 @@ fn many_tags(alloc: Global, count: usize, blanks: usize) -> Result<Vec<u8>, Fail
     Ok(field)
 }
 
+/// A name, a kind of column, how many tags its field has and how often, how many blanks come after them, and why it is
+/// refused. The tags 0 to 63 take 182 bytes with their separators, 0 to 64 take 185.
+static LONG: [(&str, ColumnKind, usize, usize, usize, Option<CellRefusal>); 10] = [
+    ("longest text", ColumnKind::Text, 0, 1, 4_096, None),
+    (
+        "text too long",
+        ColumnKind::Text,
+        0,
+        1,
+        4_097,
+        Some(CellRefusal::TextTooLong),
+    ),
+    ("most tags", TAGS, 64, 1, 0, None),
+    ("64 tags twice", TAGS, 64, 2, 0, None),
+    (
+        "too many tags",
+        TAGS,
+        65,
+        1,
+        0,
+        Some(CellRefusal::TooManyTags),
+    ),
+    (
+        "blanks are one more",
+        TAGS,
+        64,
+        1,
+        1,
+        Some(CellRefusal::TooManyTags),
+    ),
+    ("longest tags", TAGS, 63, 1, 3_917, None),
+    (
+        "tags too long",
+        TAGS,
+        63,
+        1,
+        3_918,
+        Some(CellRefusal::TextTooLong),
+    ),
+    (
+        "longest and too many",
+        TAGS,
+        65,
+        1,
+        3_911,
+        Some(CellRefusal::TooManyTags),
+    ),
+    (
+        "length comes first",
+        TAGS,
+        65,
+        1,
+        3_912,
+        Some(CellRefusal::TextTooLong),
+    ),
+];
+
 #[test]
 fn long_cells_are_refused(rt: HostRuntime) -> Result<(), Fail> {
-    let alloc = rt.alloc();
-    let text = column(alloc, ColumnKind::Text, None)?;
-    let tags = column(alloc, ColumnKind::Tags(b';'), None)?;
-    // The tags 0 to 63 take 182 bytes with their separators, 0 to 64 take 185.
-    let cases: [(&str, &Column, usize, usize, Option<CellRefusal>); 9] = [
-        ("longest text", &text, 0, 4_096, None),
-        (
-            "text too long",
-            &text,
-            0,
-            4_097,
-            Some(CellRefusal::TextTooLong),
-        ),
-        ("most tags", &tags, 64, 0, None),
-        (
-            "too many tags",
-            &tags,
-            65,
-            0,
-            Some(CellRefusal::TooManyTags),
-        ),
-        (
-            "blanks are one more",
-            &tags,
-            64,
-            1,
-            Some(CellRefusal::TooManyTags),
-        ),
-        ("longest tags", &tags, 63, 3_917, None),
-        (
-            "tags too long",
-            &tags,
-            63,
-            3_918,
-            Some(CellRefusal::TextTooLong),
-        ),
-        (
-            "longest and too many",
-            &tags,
-            65,
-            3_911,
-            Some(CellRefusal::TooManyTags),
-        ),
-        (
-            "length comes first",
-            &tags,
-            65,
-            3_912,
-            Some(CellRefusal::TextTooLong),
-        ),
-    ];
-    for (name, column, count, blanks, want) in cases {
-        let field = many_tags(alloc, count, blanks)?;
-        match read(alloc, column, field.as_slice()) {
-            Ok(_) => assert!(rt; want.is_none(), "{name}"),
-            Err(ReadCellFault::Bad(why)) => assert_eq!(rt; Some(why), want, "{name}"),
-            Err(ReadCellFault::OutOfMemory) => assert!(rt; false, "{name}"),
-        }
+    for (name, kind, count, times, blanks, want) in &LONG {
+        let column = column(rt.alloc(), *kind, None)?;
+        let field = many_tags(rt.alloc(), *count, *times, *blanks)?;
+        let found = read(rt.alloc(), &column, field.as_slice()).err();
+        assert!(rt; found == want.map(ReadCellFault::Bad), "{name}");
     }
-    let mut twice = many_tags(alloc, 64, 0)?;
-    twice.extend_from_slice(many_tags(alloc, 64, 0)?.as_slice())?;
-    assert!(rt;
-        read(alloc, &tags, twice.as_slice()).is_ok(),
-        "64 tags twice"
-    );
     Ok(())
 }

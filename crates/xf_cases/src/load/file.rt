@@ -1,9 +1,10 @@
 //! Rows of whole files.
 use super::shown;
-use crate::{CellRefusal, LoadRefusal, Loaded, records_of, records_within};
+use crate::see::see_text;
 use std::alloc::Global;
 use std::test::Fail;
 use xf_base::{Column, ColumnKind, RowList, Schema, Text};
+use xf_load::{CellRefusal, LoadRefusal, Loaded, records_of, records_within};
 
 /// The columns `delay` of whole numbers and `carrier` of texts.
 fn flights(alloc: Global) -> Result<Schema, Fail> {
@@ -184,7 +185,7 @@ fn reads_files(rt: HostRuntime) -> Result<(), Fail> {
             Ok(rows) => rows_shown(rt.alloc(), &rows)?,
             Err(refusal) => format!(in rt.alloc(); "{refusal}")?,
         };
-        assert_eq!(rt; text.as_str(), *want, "{name}");
+        see_text(&rt, name, text.as_bytes(), want)?;
     }
     Ok(())
 }
@@ -199,22 +200,31 @@ fn a_schema_without_columns_takes_records(rt: HostRuntime) -> Result<(), Fail> {
     Ok(())
 }
 
+/// A name, a limit, and the rows of a file of three that are kept.
+static LIMITS: [(&str, u64, &str); 5] = [
+    ("no row kept", 0, ""),
+    ("one kept", 1, "1 |a|;"),
+    ("all but one kept", 2, "1 |a|;2 |b|;"),
+    ("as many as there are", 3, "1 |a|;2 |b|;3 |c|;"),
+    ("more than there are", 4, "1 |a|;2 |b|;3 |c|;"),
+];
+
 #[test]
 fn keeps_rows_within_a_limit(rt: HostRuntime) -> Result<(), Fail> {
     let schema = flights(rt.alloc())?;
     let bytes = b"delay,carrier\n1,a\n2,b\n3,c\n";
-    let cases = [
-        (0, ""),
-        (1, "1 |a|;"),
-        (2, "1 |a|;2 |b|;"),
-        (3, "1 |a|;2 |b|;3 |c|;"),
-        (4, "1 |a|;2 |b|;3 |c|;"),
-    ];
-    for (limit, want) in cases {
-        let Loaded { rows, count } = records_within(rt.alloc(), &schema, bytes, limit)?;
-        assert_eq!(rt; rows_shown(rt.alloc(), &rows)?.as_str(), want, "at {limit}");
-        assert_eq!(rt; count, 3, "at {limit}");
+    for (name, limit, want) in &LIMITS {
+        let Loaded { rows, count } = records_within(rt.alloc(), &schema, bytes, *limit)?;
+        let text = rows_shown(rt.alloc(), &rows)?;
+        see_text(&rt, name, text.as_bytes(), want)?;
+        assert!(rt; count == 3, "{name}");
     }
+    Ok(())
+}
+
+#[test]
+fn reads_past_a_limit(rt: HostRuntime) -> Result<(), Fail> {
+    let schema = flights(rt.alloc())?;
     let bad = records_within(rt.alloc(), &schema, b"delay,carrier\n1,a\n2,b\nx,c\n", 1);
     let want = LoadRefusal::BadCell {
         number: 3,

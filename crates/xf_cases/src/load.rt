@@ -1,4 +1,4 @@
-//! What no clause says: what fields and files mean, by values written by hand.
+//! What fields and files mean, by values written by hand.
 mod cell;
 mod file;
 mod record;

@@ -1,4 +1,4 @@
-use Rattle.xf_table.proofs.tests.rows_in_order.Given as goal
+use Rattle.xf_cases.proofs.table.rows_in_order.Given as goal
 
 -- the example counts its steps in the ledger of its blank
 abbrev pub ghosts-see : goal.ghosts-see

@@ -1,13 +1,13 @@
 //! A table of names with numbers: what it holds, in order, how many bytes of text, and what it refuses.
 ghost use Rattle.std.specs.Prelude.{◌≡◌, ◌<◌};
 
-use crate::{AppendRefusal, Table};
 use std::alloc::Global;
 use std::marker::Brand;
 use std::process::Abort;
 use std::sync::ledger::{Blank, Ledger};
 use std::test::Fail;
 use xf_base::{Cell, Column, ColumnKind, Limits, OutOfMemory, Row, RowList, Schema, Steps, Text};
+use xf_table::{AppendRefusal, Table};
 
 fn name_and_number(alloc: Global) -> Result<Schema, OutOfMemory> {
     let mut schema = Schema::new(alloc);
@@ -71,58 +71,91 @@ fn rows_in_order(rt: HostRuntime) -> Result<(), Fail> {
     see::<Brand>(&rt, rt.alloc(), Blank::new(1), &["b", "", "ü", "b"], 4)
 }
 
+/// What a table of at most four records and five bytes of text holds.
+struct Held {
+    records: usize,
+    text: u64,
+}
+
+/// What an append shows, its records, why it is refused where it is, and what is held then.
+static APPENDS: [(&str, &[(&str, i64)], Option<AppendRefusal>, Held); 5] = [
+    (
+        "records that are taken",
+        &[("ab", 1), ("c", 2)],
+        None,
+        Held {
+            records: 2,
+            text: 3,
+        },
+    ),
+    (
+        "too many records",
+        &[("d", 3), ("ef", 4), ("", 5)],
+        Some(AppendRefusal::TooManyRecords {
+            have: 2,
+            more: 3,
+            limit: 4,
+        }),
+        Held {
+            records: 2,
+            text: 3,
+        },
+    ),
+    (
+        "too much text before another kind",
+        &[("def", TOO_GREAT)],
+        Some(AppendRefusal::TooMuchText {
+            have: 3,
+            more: 3,
+            limit: 5,
+        }),
+        Held {
+            records: 2,
+            text: 3,
+        },
+    ),
+    (
+        "a number that is too great",
+        &[("d", 3), ("e", TOO_GREAT)],
+        Some(AppendRefusal::KindMismatch {
+            place: 1,
+            column: 1,
+        }),
+        Held {
+            records: 2,
+            text: 3,
+        },
+    ),
+    (
+        "records that fill both limits",
+        &[("d", 3), ("e", 4)],
+        None,
+        Held {
+            records: 4,
+            text: 5,
+        },
+    ),
+];
+
+const TOO_GREAT: i64 = 1_000_000_000_000_001;
+
 /// Of two causes that hold, the first is told; what fills both limits is taken.
 #[test]
 fn refusals(rt: HostRuntime) -> Result<(), Fail> {
-    const TOO_GREAT: i64 = 1_000_000_000_000_001;
-    let alloc = rt.alloc();
     let limits = Limits {
         rows: 4,
         text_bytes: 5,
         ..Limits::standard()
     };
-    let mut table = Table::new(alloc, name_and_number(alloc)?, limits);
-    assert_eq!(rt; table.limits().rows, 4);
-    assert_eq!(rt;
-        table.append(rows_of(alloc, &[("ab", 1), ("c", 2)])?),
-        Ok(())
-    );
-    let three: [(&str, i64); 3] = [("d", 3), ("ef", 4), ("", 5)];
-    let refused: [(&[(&str, i64)], AppendRefusal); 3] = [
-        (
-            &three,
-            AppendRefusal::TooManyRecords {
-                have: 2,
-                more: 3,
-                limit: 4,
-            },
-        ),
-        (
-            &[("def", TOO_GREAT)],
-            AppendRefusal::TooMuchText {
-                have: 3,
-                more: 3,
-                limit: 5,
-            },
-        ),
-        (
-            &[("d", 3), ("e", TOO_GREAT)],
-            AppendRefusal::KindMismatch {
-                place: 1,
-                column: 1,
-            },
-        ),
-    ];
-    for (records, cause) in refused {
-        assert_eq!(rt; table.append(rows_of(alloc, records)?), Err(cause));
-        assert_eq!(rt; table.len(), 2);
-        assert_eq!(rt; table.text(), 3);
+    let mut table = Table::new(rt.alloc(), name_and_number(rt.alloc())?, limits);
+    assert!(rt; table.limits().rows == 4);
+    for (shows, records, refusal, held) in &APPENDS {
+        let found = table.append(rows_of(rt.alloc(), records)?).err();
+        assert!(rt; found == *refusal, "{shows}");
+        assert!(rt;
+            table.len() == held.records && table.text() == held.text,
+            "{shows}"
+        );
     }
-    assert_eq!(rt;
-        table.append(rows_of(alloc, &[("d", 3), ("e", 4)])?),
-        Ok(())
-    );
-    assert_eq!(rt; table.len(), 4);
-    assert_eq!(rt; table.text(), 5);
     Ok(())
 }

@@ -1,0 +1,8 @@
+//! How the texts of numbers, dates, keys and words are written and read, and what rows and schemas hold.
+mod date;
+mod form;
+mod key;
+mod number;
+mod row;
+mod steps;
+mod word;

@@ -1,0 +1,29 @@
+//! Counted steps, and want of memory.
+ghost use Rattle.std.specs.Prelude.{◌≡◌, ◌<◌};
+
+use std::marker::Brand;
+use std::sync::ledger::{Blank, Ledger};
+use std::test::Fail;
+use xf_base::{OutOfMemory, Steps};
+
+fn count_three<L: Ledger>(blank: Blank)
+    requires name { blank.name ≡ L.name }
+    requires parts { blank.parts ≡ L.parts }
+    requires some { 0 < blank.parts }
+{
+    let mut steps = Steps::<L>::new(blank);
+    steps.tick();
+    steps.tick_by(2);
+}
+
+#[test]
+fn counts_steps() {
+    count_three::<Brand>(Blank::new(1));
+}
+
+#[test]
+fn want_of_memory_has_a_text(rt: HostRuntime) -> Result<(), Fail> {
+    let text = format!(in rt.alloc(); "{}", OutOfMemory)?;
+    assert_eq!(rt; text.as_str(), "out of memory");
+    Ok(())
+}
