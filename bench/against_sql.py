@@ -9,9 +9,9 @@ range filters of bench/run.py. The file is loaded into a table of SQLite in memo
 anew: a count of the records that pass, and for each column one GROUP BY with a sum of those that pass the other columns.
 It prints both wall times, and ends with status 1 where a byte differs.
 
-With --quick it times nothing. It makes 300 records, negative numbers among them, and 30 filters whose ends are drawn and
-of which each fifth is reversed; it prints the first line that differs, or nothing. It needs Python 3.8 on Linux, with
-its sqlite3, and nothing else.
+With --quick it times nothing. It makes 300 records, negative numbers among them, and 30 lines: filters whose ends are
+drawn and of which each fifth is reversed, and in place of each seventh line one that clears a column; it prints the first
+line that differs, or nothing. It needs Python 3.8 on Linux, with its sqlite3, and nothing else.
 """
 
 import csv
@@ -28,7 +28,7 @@ FILTERS = 20
 # Of the quick comparison: each column's name, and half the number of values around 0 that it is drawn from.
 QUICK_COLUMNS = [("few", 2), ("some", 25), ("many", 1000)]
 QUICK_RECORDS = 300
-QUICK_FILTERS = 30
+QUICK_LINES = 30
 
 
 def load(path):
@@ -76,11 +76,13 @@ def replay(board, session):
     lines = []
     with open(session, encoding="ascii") as commands:
         for number, command in enumerate(commands, 1):
-            _, word, _, low, high = command.split()
+            verb, word, *range_words = command.split()
             name = f'"{word}"'
-            ends = (int(low), int(high))
-            lines.append(f"step {number} ok moved {moved(table, name, ranges.get(name), ends)}")
-            ranges[name] = ends
+            old = ranges.pop(name, None)
+            if verb == "filter":
+                _, low, high = range_words
+                ranges[name] = (int(low), int(high))
+            lines.append(f"step {number} ok moved {moved(table, name, old, ranges.get(name))}")
             lines.extend(view(table, names, ranges))
     return "".join(line + "\n" for line in lines).encode("ascii")
 
@@ -92,11 +94,11 @@ def write_quick(board, session):
         for _ in range(QUICK_RECORDS):
             records.write(",".join(str(draws.draw(2 * half) - half) for _, half in QUICK_COLUMNS) + "\n")
     with open(session, "w", encoding="ascii") as commands:
-        for number in range(QUICK_FILTERS):
+        for number in range(QUICK_LINES):
             name, half = QUICK_COLUMNS[draws.draw(len(QUICK_COLUMNS))]
             ends = [-draws.draw(half), draws.draw(half) + 1]
             low, high = reversed(ends) if number % 5 == 4 else ends
-            commands.write(f"filter {name} range {low} {high}\n")
+            commands.write(f"clear {name}\n" if number % 7 == 6 else f"filter {name} range {low} {high}\n")
 
 
 def compare(program, board, session, output):

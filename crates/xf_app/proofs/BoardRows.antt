@@ -9,7 +9,7 @@ use Rattle.std.proofs.lemmas.List.FromFn.{length-enumerate_from}
 use Rattle.std.proofs.lemmas.List.Sums.{AllPass-from_list_all, fails_before_first}
 use Rattle.std.proofs.lemmas.Slice.Eq.{bytes_eq-Decides}
 use Rattle.xf_app.specs.Board.{board_columns, columns_of, columns_unless, field_of, int_column, is_chosen, is_named, is_number, is_number_column, uneven_place}
-use Rattle.xf_app.specs.BoardParts.{IsBoard}
+use Rattle.xf_app.specs.BoardParts.{IsBoard, IsInt}
 use Rattle.xf_app.specs.declared.board.BoardFault.{BoardFault}
 use Rattle.xf_app.proofs.BoardFacts.{IsPlaced, columns-few, is_uneven, placed}
 use Rattle.xf_app.proofs.NumberText.{number-text}
@@ -18,7 +18,6 @@ use Rattle.xf_base.specs.Schema.{IsRowOf}
 use Rattle.xf_base.specs.declared.cell.Cell.{Cell}
 use Rattle.xf_base.specs.declared.column.Column.{Column}
 use Rattle.xf_base.specs.declared.limits.TheConstants.Limits.{DIMENSIONS, ENTRIES, ROWS}
-use Rattle.xf_engine.specs.Cross.{IsInt}
 use Rattle.xf_load.specs.Cell.{cell_of}
 use Rattle.xf_load.specs.Fallible.{◌>>=◌, each_ok}
 use Rattle.xf_load.specs.Load.{cell_at, place_of, row_of, rows_of}

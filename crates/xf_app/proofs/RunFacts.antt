@@ -1,5 +1,5 @@
 -- What the parts of a run give together.
-use Rattle.std.proofs.Common.{◌≡◌, ◌⊎◌, inl, inr, ℕ, ◌+◌, ◌<◌, ◌≤◌, nat_lt, cond, true, false, List, [], length, Option, Some, None, IfSome, IsSome, IsSomeAnd, Result, Ok, Err, refl, sym, ap, subst, ◌∙◌, arith}
+use Rattle.std.proofs.Common.{◌≡◌, ◌⊎◌, inl, inr, ℕ, ◌+◌, ◌<◌, ◌≤◌, nat_eq, nat_lt, cond, true, false, List, length, Option, Some, None, IfSome, IsSome, IsSomeAnd, Result, Ok, Err, refl, sym, ap, subst, ◌∙◌, arith}
 use Rattle.std.proofs.lemmas.Bool.{lt-ltb, le-ltb}
 use Rattle.std.specs.FinMap.{get}
 use Rattle.xf_app.proofs.Put.{part-nothing}
@@ -8,7 +8,7 @@ use Rattle.xf_app.specs.BoardParts.{BoardParts}
 use Rattle.xf_app.specs.Due.{Due, absent_due, board_due, due_of, file_due, files_due, names_due, progress_due, refused_due, session_of, too_long_due, usage_due}
 use Rattle.xf_app.specs.Ends.{Ends, EndsRefused, EndsSilent, EndsUnfetched, IsRun}
 use Rattle.xf_app.specs.Put.{Puts, PutsPart}
-use Rattle.xf_app.specs.Run.{CountsFaults, HasCause, Headline, Holds, IsAccepted, IsStopped, MeetsDue, NoReadFault, NoWriteFault, ReadingFailed, RunAccount, WritingFailed}
+use Rattle.xf_app.specs.Run.{CountsFaults, CountsMisses, HasCause, Headline, Holds, IsAccepted, IsStopped, MeetsDue, NoMiss, NoReadFault, NoWriteFault, OneMiss, ReadingFailed, RunAccount, WritingFailed}
 use Rattle.xf_app.specs.Words.{names_of}
 use Rattle.xf_app.specs.declared.board.BoardFault.{BoardFault}
 use Rattle.xf_app.specs.declared.board.BoardFault.TheVariants as fault
@@ -16,21 +16,19 @@ use Rattle.xf_app.specs.declared.status.Status.{Status}
 use Rattle.xf_app.specs.declared.status.Status.TheVariants as status
 use Rattle.xf_base.specs.declared.limits.TheConstants.Limits.{FILE_BYTES}
 use Rattle.xf_outside.specs.Account.{DepotAccount, Files, SinkAccount}
-use Rattle.xf_outside.specs.Count.{FaultsAfterFetch, Rose}
+use Rattle.xf_outside.specs.Count.{FaultsAfterFetch, MissesAfterFetch, Rose, RoseExactly}
 use Rattle.xf_outside.specs.declared.depot.FetchFault.{FetchFault}
 use Rattle.xf_outside.specs.declared.depot.FetchFault.TheVariants as fetch
 
--- where no fault is counted, none is to be told
-counts-none : (run : RunAccount) (got : Status) → NoReadFault run → NoWriteFault run → CountsFaults run got
-counts-none run status.Done r w = (r, w)
-counts-none run status.DoneWithRefusals r w = (r, w)
-counts-none run status.Usage r w = (r, w)
-counts-none run status.BoardRefused r w = (r, w)
-counts-none run status.ReadFault r w = w
-counts-none run status.WriteFault r w = r
-counts-none run status.Memory r w = (r, w)
-counts-none run status.Absent r w = (r, w)
-counts-none run status.TooLong r w = (r, w)
+-- what the depot counted is as this status tells it, where its text is put whole and where it is not
+record Counted (run : RunAccount) (got : Status) : Type 0 where
+  faults : NoReadFault run
+  miss : OneMiss run
+  told : NoWriteFault run → CountsFaults run got
+  misses : CountsMisses run got
+
+no_miss-one : (run : RunAccount) → NoMiss run → OneMiss run
+no_miss-one run none = omega (arith, none)
 
 -- a run that stopped without memory has counted a fault
 stopped-counted : (run : RunAccount) (got : Status) → HasCause run got → IsStopped got → (got ≡ status.Memory → ⊥) → (ReadingFailed run → ⊥) → (WritingFailed run → ⊥) → ⊥
@@ -71,10 +69,11 @@ headline-from run got cause meets = λ name session_name bytes session files boa
       | inr stopped ↦ absurd (stopped-counted run got cause stopped.0 memory reading writing)
     ]
 
-meets : (run : RunAccount) (got : Status) → HasCause run got → CountsFaults run got → MeetsDue run got → IsRun run got
-meets run got cause faults due = record {
+meets : (run : RunAccount) (got : Status) → HasCause run got → CountsFaults run got → CountsMisses run got → MeetsDue run got → IsRun run got
+meets run got cause faults misses due = record {
   cause = cause;
   faults = faults;
+  misses = misses;
   due = due;
   headline = headline-from run got cause due;
 }
@@ -88,15 +87,15 @@ weaker None P R f p = tt
 weaker (Some x) P R f p = f x p
 
 -- a run that ended with what is due
-ends : (run : RunAccount) (due : Due) (got : Status) → IsDue run due → HasCause run due.status → NoReadFault run → Ends due run.before.sink run.after.sink got → IsRun run got
-ends run due got is cause quiet h =
+ends : (run : RunAccount) (due : Due) (got : Status) → IsDue run due → HasCause run due.status → Counted run due.status → Ends due run.before.sink run.after.sink got → IsRun run got
+ends run due got is cause counted h =
     elim h [
-      | inl whole ↦ meets run got (subst (HasCause run) (sym whole.0) cause) (counts-none run got quiet whole.1.1)
+      | inl whole ↦ meets run got (subst (HasCause run) (sym whole.0) cause) (subst (CountsFaults run) (sym whole.0) (counted.told whole.1.1)) (subst (CountsMisses run) (sym whole.0) counted.misses)
           (weaker (due_of run.words run.before.depot.files) _ _ (λ d e. inl (rw e whole.0, rw e whole.1.0)) is)
       | inr stopped ↦ elim stopped [
-        | inl failed ↦ meets run got (subst (HasCause run) (sym failed.0) failed.2) (subst (CountsFaults run) (sym failed.0) quiet)
+        | inl failed ↦ meets run got (subst (HasCause run) (sym failed.0) failed.2.0) (subst (CountsFaults run) (sym failed.0) (counted.faults, failed.2)) (subst (CountsMisses run) (sym failed.0) counted.miss)
             (weaker (due_of run.words run.before.depot.files) _ _ (λ d e. inr (inr (inl failed.0), rw e failed.1)) is)
-        | inr memory ↦ meets run got (subst (HasCause run) (sym memory.0) tt) (counts-none run got quiet memory.2)
+        | inr memory ↦ meets run got (subst (HasCause run) (sym memory.0) tt) (subst (CountsFaults run) (sym memory.0) (counted.faults, memory.2)) (subst (CountsMisses run) (sym memory.0) counted.miss)
             (weaker (due_of run.words run.before.depot.files) _ _ (λ d e. inr (inr (inr memory.0), rw e memory.1)) is)
       ]
     ]
@@ -110,23 +109,29 @@ silent-due run got stopped same =
     go None = tt
     go (Some due) = inr (stopped, subst (λ sink. PutsPart run.before.sink sink due.text) (sym same) (part-nothing run.before.sink due.text))
 
-silent-memory : (run : RunAccount) (got : Status) → NoReadFault run → EndsSilent status.Memory run.before.sink run.after.sink got → IsRun run got
-silent-memory run got quiet h =
-    meets run got (subst (HasCause run) (sym h.0) tt) (counts-none run got quiet (ap (λ (s : SinkAccount). s.faults) h.1)) (silent-due run got (inr (inr h.0)) h.1)
+silent-memory : (run : RunAccount) (got : Status) → NoReadFault run → NoMiss run → EndsSilent status.Memory run.before.sink run.after.sink got → IsRun run got
+silent-memory run got quiet none h =
+    meets run got (subst (HasCause run) (sym h.0) tt) (subst (CountsFaults run) (sym h.0) (quiet, ap (λ (s : SinkAccount). s.faults) h.1)) (subst (CountsMisses run) (sym h.0) (no_miss-one run none))
+    (silent-due run got (inr (inr h.0)) h.1)
 
-silent-read_fault : (run : RunAccount) (got : Status) → IsAccepted run → ReadingFailed run → EndsSilent status.ReadFault run.before.sink run.after.sink got → IsRun run got
-silent-read_fault run got accepted failed h =
-    meets run got (subst (HasCause run) (sym h.0) (accepted, failed, h.1)) (subst (CountsFaults run) (sym h.0) (ap (λ (s : SinkAccount). s.faults) h.1)) (silent-due run got (inl h.0) h.1)
+-- the count of the depot's faults rose by one, and by no more
+abbrev FailedOnce : RunAccount → Type 0
+FailedOnce run = RoseExactly run.before.depot.faults run.after.depot.faults 1
+
+silent-read_fault : (run : RunAccount) (got : Status) → IsAccepted run → FailedOnce run → NoMiss run → EndsSilent status.ReadFault run.before.sink run.after.sink got → IsRun run got
+silent-read_fault run got accepted failed none h =
+    meets run got (subst (HasCause run) (sym h.0) (accepted, failed.0, h.1)) (subst (CountsFaults run) (sym h.0) (failed, ap (λ (s : SinkAccount). s.faults) h.1)) (subst (CountsMisses run) (sym h.0) none)
+    (silent-due run got (inl h.0) h.1)
 
 -- the words are accepted
 accepted : (words : List (List ℕ)) (names : List ℕ × List ℕ) → names_of words ≡ Some names → IsSome (names_of words)
 accepted words names e = rw e refl
 
 -- the words are refused
-pub run-usage : (run : RunAccount) (got : Status) → names_of run.words ≡ None → NoReadFault run → Ends usage_due run.before.sink run.after.sink got → IsRun run got
-run-usage run got none quiet h =
+pub run-usage : (run : RunAccount) (got : Status) → names_of run.words ≡ None → NoReadFault run → NoMiss run → Ends usage_due run.before.sink run.after.sink got → IsRun run got
+run-usage run got none quiet found h =
     let is : IsDue run usage_due = rw none refl in
-    ends run usage_due got is none quiet h
+    ends run usage_due got is none (record { faults = quiet; miss = no_miss-one run found; told = λ w. (quiet, w); misses = found }) h
 
 -- what the files tell of a name
 names-due : (run : RunAccount) (name session : List ℕ) (due : Due) (fact : Files → Type 0) → names_of run.words ≡ Some (name, session)
@@ -153,34 +158,48 @@ rose-later a b c by first h = omega (arith, h)
 pub record IsMissed (run : RunAccount) (name : List ℕ) (cause : FetchFault) : Type 0 where
   pub absent : cause ≡ fetch.Absent → Rose run.before.depot.misses run.after.depot.misses 1 × IfSome run.before.depot.files (λ files. get files name ≡ None)
   pub too_long : cause ≡ fetch.TooLong → Rose run.before.depot.taken run.after.depot.taken (FILE_BYTES + 1) × IfSome run.before.depot.files (λ files. IsSomeAnd (get files name) (λ bytes. FILE_BYTES < length bytes))
-  pub failed : cause ≡ fetch.Failed → ReadingFailed run
+  pub failed : cause ≡ fetch.Failed → FailedOnce run
   pub quiet : (cause ≡ fetch.Failed → ⊥) → NoReadFault run
+  pub once : OneMiss run
+  pub found : (cause ≡ fetch.Absent → ⊥) → NoMiss run
 
 -- what the clauses of the first fetch tell
 pub missed-first : (run : RunAccount) (name : List ℕ) (cause : FetchFault)
     → (cause ≡ fetch.Absent → Rose run.before.depot.misses run.after.depot.misses 1 × IfSome run.before.depot.files (λ files. get files name ≡ None))
     → (cause ≡ fetch.TooLong → Rose run.before.depot.taken run.after.depot.taken (FILE_BYTES + 1) × IfSome run.before.depot.files (λ files. IsSomeAnd (get files name) (λ bytes. FILE_BYTES < length bytes)))
-    → FaultsAfterFetch {X = Unit {0}} (Err cause) run.before.depot.faults run.after.depot.faults → IsMissed run name cause
-missed-first run name fetch.Absent absent long faults = record { absent = absent; too_long = long; failed = λ e. cc e; quiet = λ e. faults }
-missed-first run name fetch.TooLong absent long faults = record { absent = absent; too_long = long; failed = λ e. cc e; quiet = λ e. faults }
-missed-first run name fetch.Failed absent long faults = record { absent = absent; too_long = long; failed = λ e. faults; quiet = λ e. absurd (e refl) }
-missed-first run name fetch.OutOfMemory absent long faults = record { absent = absent; too_long = long; failed = λ e. cc e; quiet = λ e. faults }
+    → FaultsAfterFetch {X = Unit {0}} (Err cause) run.before.depot.faults run.after.depot.faults → MissesAfterFetch {X = Unit {0}} (Err cause) run.before.depot.misses run.after.depot.misses → IsMissed run name cause
+missed-first run name fetch.Absent absent long faults misses = record { absent = absent; too_long = long; failed = λ e. cc e; quiet = λ e. faults; once = misses.1; found = λ e. absurd (e refl) }
+missed-first run name fetch.TooLong absent long faults misses = record { absent = absent; too_long = long; failed = λ e. cc e; quiet = λ e. faults; once = no_miss-one run misses; found = λ e. misses }
+missed-first run name fetch.Failed absent long faults misses = record { absent = absent; too_long = long; failed = λ e. faults; quiet = λ e. absurd (e refl); once = no_miss-one run misses; found = λ e. misses }
+missed-first run name fetch.OutOfMemory absent long faults misses = record { absent = absent; too_long = long; failed = λ e. cc e; quiet = λ e. faults; once = no_miss-one run misses; found = λ e. misses }
 
--- and those of the second, where the first has counted no fault
+-- and those of the second, where the first has counted no fault and no miss
 pub missed-second : (run : RunAccount) (name : List ℕ) (cause : FetchFault) (now : DepotAccount) → now.files ≡ run.before.depot.files → now.faults ≡ run.before.depot.faults
-    → run.before.depot.misses ≤ now.misses → run.before.depot.taken ≤ now.taken
+    → now.misses ≡ run.before.depot.misses → run.before.depot.taken ≤ now.taken
     → (cause ≡ fetch.Absent → Rose now.misses run.after.depot.misses 1 × IfSome now.files (λ files. get files name ≡ None))
     → (cause ≡ fetch.TooLong → Rose now.taken run.after.depot.taken (FILE_BYTES + 1) × IfSome now.files (λ files. IsSomeAnd (get files name) (λ bytes. FILE_BYTES < length bytes)))
-    → FaultsAfterFetch {X = Unit {0}} (Err cause) now.faults run.after.depot.faults → IsMissed run name cause
-missed-second run name cause now files quiet misses taken absent long faults =
+    → FaultsAfterFetch {X = Unit {0}} (Err cause) now.faults run.after.depot.faults → MissesAfterFetch {X = Unit {0}} (Err cause) now.misses run.after.depot.misses → IsMissed run name cause
+missed-second run name cause now files quiet found taken absent long faults misses =
     missed-first run name cause
-    (λ e. let miss = absent e in (rose-later run.before.depot.misses now.misses run.after.depot.misses 1 misses miss.0, subst (λ o. IfSome o (λ f. get f name ≡ None)) files miss.1))
+    (λ e. let miss = absent e in (subst (λ n. Rose n run.after.depot.misses 1) found miss.0, subst (λ o. IfSome o (λ f. get f name ≡ None)) files miss.1))
     (λ e. let more = long e in (rose-later run.before.depot.taken now.taken run.after.depot.taken (FILE_BYTES + 1) taken more.0, subst (λ o. IfSome o (λ f. IsSomeAnd (get f name) (λ bytes. FILE_BYTES < length bytes))) files more.1))
     (subst (λ n. FaultsAfterFetch {X = Unit {0}} (Err cause) n run.after.depot.faults) quiet faults)
+    (subst (λ n. MissesAfterFetch {X = Unit {0}} (Err cause) n run.after.depot.misses) found misses)
 
 -- a file that was fetched is held
 pub holds-fetched : (told : Option Files) (name bytes : List ℕ) → length bytes ≤ FILE_BYTES → IfSome told (λ files. get files name ≡ Some bytes) → IfSome told (λ files. Holds files name bytes)
 holds-fetched told name bytes small at = weaker told _ _ (λ files e. (e, small)) at
+
+-- a file that is not there is told, and one that is too long
+counted-absent : (run : RunAccount) (name : List ℕ) → IsMissed run name fetch.Absent → Counted run status.Absent
+counted-absent run name missed =
+    let quiet = missed.quiet (λ e. cc e) in
+    record { faults = quiet; miss = missed.once; told = λ w. (quiet, w); misses = missed.once }
+
+counted-too_long : (run : RunAccount) (name : List ℕ) → IsMissed run name fetch.TooLong → Counted run status.TooLong
+counted-too_long run name missed =
+    let quiet = missed.quiet (λ e. cc e) in
+    record { faults = quiet; miss = missed.once; told = λ w. (quiet, w); misses = missed.found (λ e. cc e) }
 
 -- the board was not fetched
 pub run-no_board : (run : RunAccount) (name session : List ℕ) (cause : FetchFault) (got : Status) → names_of run.words ≡ Some (name, session)
@@ -188,19 +207,19 @@ pub run-no_board : (run : RunAccount) (name session : List ℕ) (cause : FetchFa
 run-no_board run name session fetch.Absent got names missed h =
     let miss = missed.absent refl in
     let is = names-due run name session (absent_due name) (λ files. get files name ≡ None) names miss.1 (λ files none. rw none refl) in
-    ends run (absent_due name) got is (accepted run.words (name, session) names, miss.0) (missed.quiet (λ e. cc e)) h
+    ends run (absent_due name) got is (accepted run.words (name, session) names, miss.0) (counted-absent run name missed) h
 run-no_board run name session fetch.TooLong got names missed h =
     let more = missed.too_long refl in
     let is = names-due run name session (too_long_due name) (λ files. IsSomeAnd (get files name) (λ bytes. FILE_BYTES < length bytes)) names more.1 (λ files long. file_due-long files name (λ b. board_due (board_of b) (after_board files session)) long) in
-    ends run (too_long_due name) got is (accepted run.words (name, session) names, more.0) (missed.quiet (λ e. cc e)) h
-run-no_board run name session fetch.Failed got names missed h = silent-read_fault run got (accepted run.words (name, session) names) (missed.failed refl) h
-run-no_board run name session fetch.OutOfMemory got names missed h = silent-memory run got (missed.quiet (λ e. cc e)) h
+    ends run (too_long_due name) got is (accepted run.words (name, session) names, more.0) (counted-too_long run name missed) h
+run-no_board run name session fetch.Failed got names missed h = silent-read_fault run got (accepted run.words (name, session) names) (missed.failed refl) (missed.found (λ e. cc e)) h
+run-no_board run name session fetch.OutOfMemory got names missed h = silent-memory run got (missed.quiet (λ e. cc e)) (missed.found (λ e. cc e)) h
 
 -- the board was refused
 pub run-refused : (run : RunAccount) (name session bytes : List ℕ) (read : Result BoardParts BoardFault) (cause : BoardFault) (got : Status) → names_of run.words ≡ Some (name, session)
-    → IfSome run.before.depot.files (λ files. Holds files name bytes) → NoReadFault run → (read ≡ Err fault.OutOfMemory) ⊎ (read ≡ board_of bytes) → read ≡ Err cause
+    → IfSome run.before.depot.files (λ files. Holds files name bytes) → NoReadFault run → NoMiss run → (read ≡ Err fault.OutOfMemory) ⊎ (read ≡ board_of bytes) → read ≡ Err cause
     → EndsRefused cause run.before.sink run.after.sink got → IsRun run got
-run-refused run name session bytes read cause got names held quiet is found h = go cause found h
+run-refused run name session bytes read cause got names held quiet found is refused h = go cause refused h
   where
     refusal : (own : BoardFault) → (own ≡ fault.OutOfMemory → ⊥) → read ≡ Err own → Ends (refused_due own) run.before.sink run.after.sink got → IsRun run got
     refusal own other e end =
@@ -209,14 +228,14 @@ run-refused run name session bytes read cause got names held quiet is found h = 
           | inr same ↦ sym same ∙ e
         ] in
         let due = names-due run name session (refused_due own) (λ files. Holds files name bytes) names held (λ files holds. files_due-held files name session bytes (Err own) holds made) in
-        ends run (refused_due own) got due (accepted run.words (name, session) names) quiet end
+        ends run (refused_due own) got due (accepted run.words (name, session) names) (record { faults = quiet; miss = no_miss-one run found; told = λ w. (quiet, w); misses = found }) end
 
     go : (own : BoardFault) → read ≡ Err own → EndsRefused own run.before.sink run.after.sink got → IsRun run got
     go fault.NoHeader e end = refusal fault.NoHeader (λ o. cc o) e end
     go (fault.UnevenRecord number) e end = refusal (fault.UnevenRecord number) (λ o. cc o) e end
     go (fault.TooManyRecords more) e end = refusal (fault.TooManyRecords more) (λ o. cc o) e end
     go (fault.TooManyEntries more) e end = refusal (fault.TooManyEntries more) (λ o. cc o) e end
-    go fault.OutOfMemory e end = silent-memory run got quiet end
+    go fault.OutOfMemory e end = silent-memory run got quiet found end
 
 -- a board that was read is what the definition says
 pub read-made : (bytes : List ℕ) (read : Result BoardParts BoardFault) (board : BoardParts) → (read ≡ Err fault.OutOfMemory) ⊎ (read ≡ board_of bytes) → read ≡ Ok board → board_of bytes ≡ Ok board
@@ -241,24 +260,26 @@ run-no_session run name session bytes board fetch.Absent got names held made mis
     let miss = missed.absent refl in
     let is = names-due run name session (absent_due session) (λ files. Holds files name bytes × (get files session ≡ None)) names (both run.before.depot.files _ _ held miss.1)
     (λ files t. session-due name session bytes board files t.0 made ∙ rw t.1 refl) in
-    ends run (absent_due session) got is (accepted run.words (name, session) names, miss.0) (missed.quiet (λ e. cc e)) h
+    ends run (absent_due session) got is (accepted run.words (name, session) names, miss.0) (counted-absent run session missed) h
 run-no_session run name session bytes board fetch.TooLong got names held made missed h =
     let more = missed.too_long refl in
     let is = names-due run name session (too_long_due session) (λ files. Holds files name bytes × IsSomeAnd (get files session) (λ b. FILE_BYTES < length b)) names (both run.before.depot.files _ _ held more.1)
     (λ files t. session-due name session bytes board files t.0 made ∙ file_due-long files session (λ s. progress_due (session_of board s)) t.1) in
-    ends run (too_long_due session) got is (accepted run.words (name, session) names, more.0) (missed.quiet (λ e. cc e)) h
-run-no_session run name session bytes board fetch.Failed got names held made missed h = silent-read_fault run got (accepted run.words (name, session) names) (missed.failed refl) h
-run-no_session run name session bytes board fetch.OutOfMemory got names held made missed h = silent-memory run got (missed.quiet (λ e. cc e)) h
+    ends run (too_long_due session) got is (accepted run.words (name, session) names, more.0) (counted-too_long run session missed) h
+run-no_session run name session bytes board fetch.Failed got names held made missed h = silent-read_fault run got (accepted run.words (name, session) names) (missed.failed refl) (missed.found (λ e. cc e)) h
+run-no_session run name session bytes board fetch.OutOfMemory got names held made missed h = silent-memory run got (missed.quiet (λ e. cc e)) (missed.found (λ e. cc e)) h
 
 -- the session was played
 pub run-played : (run : RunAccount) (name session_name bytes session : List ℕ) (board : BoardParts) (got : Status) → names_of run.words ≡ Some (name, session_name)
     → IfSome run.before.depot.files (λ files. Holds files name bytes) → IfSome run.before.depot.files (λ files. Holds files session_name session) → board_of bytes ≡ Ok board
-    → NoReadFault run → Ends (progress_due (session_of board session)) run.before.sink run.after.sink got → IsRun run got
-run-played run name session_name bytes session board got names held session_held made quiet h =
+    → NoReadFault run → NoMiss run → Ends (progress_due (session_of board session)) run.before.sink run.after.sink got → IsRun run got
+run-played run name session_name bytes session board got names held session_held made quiet found h =
     let due : Due = progress_due (session_of board session) in
     let is = names-due run name session_name due (λ files. Holds files name bytes × Holds files session_name session) names (both run.before.depot.files _ _ held session_held)
     (λ files t. session-due name session_name bytes board files t.0 made ∙ file_due-held files session_name session (λ s. progress_due (session_of board s)) t.1) in
     let ok = accepted run.words (name, session_name) names in
-    let P : Status → Type 0 = HasCause run in
-    let cause : HasCause run due.status = elim (Rattle.std.proofs.Common.nat_eq (session_of board session).refusals 0) as (λ b. P (cond b status.Done status.DoneWithRefusals)) [ true ↦ ok | false ↦ ok ] in
-    ends run due got is cause quiet h
+    let none = nat_eq (session_of board session).refusals 0 in
+    let cause : HasCause run due.status = elim none as (λ b. HasCause run (cond b status.Done status.DoneWithRefusals)) [ true ↦ ok | false ↦ ok ] in
+    let told : NoWriteFault run → CountsFaults run due.status = λ w. elim none as (λ b. CountsFaults run (cond b status.Done status.DoneWithRefusals)) [ true ↦ (quiet, w) | false ↦ (quiet, w) ] in
+    let misses : CountsMisses run due.status = elim none as (λ b. CountsMisses run (cond b status.Done status.DoneWithRefusals)) [ true ↦ found | false ↦ found ] in
+    ends run due got is cause (record { faults = quiet; miss = no_miss-one run found; told = told; misses = misses }) h

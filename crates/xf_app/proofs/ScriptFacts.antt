@@ -1,7 +1,7 @@
 -- The first line of a text, and the words of a line of ASCII.
-use Rattle.std.proofs.Common.{nat_le, slice_index, length-drop, take_all, Bor, map, codes, ◌≡◌, ℕ, zero, suc, ◌+◌, ◌-◌, ◌<◌, ◌≤◌, Bool, true, false, cond, not, ◌&&◌, ◌==◌, nat_lt, List, [], ◌∷◌, length, take, drop, filter, Option, Some, None, MatchOption, refl, sym, ap, subst, ◌∙◌, arith, get_or, ◌⊎◌, inl, inr}
+use Rattle.std.proofs.Common.{nat_le, slice_index, length-drop, take_all, Bor, map, ◌≡◌, ℕ, zero, suc, ◌+◌, ◌-◌, ◌<◌, ◌≤◌, Bool, true, false, cond, not, ◌&&◌, ◌==◌, nat_lt, List, [], ◌∷◌, length, take, drop, filter, Option, Some, None, MatchOption, refl, sym, ap, subst, ◌∙◌, arith}
 use Rattle.std.specs.List.{slice_split, onto_first, position_or_len, before_first, after_first, list_all, AllByRecursion}
-use Rattle.std.specs.Str.{IsAscii, bytes_eq}
+use Rattle.std.specs.Str.{IsAscii}
 use Rattle.std.specs.Str.Lines.{lines, lines_of_parts, strip_carriage_return}
 use Rattle.std.proofs.lemmas.List.Splits.{slice_split_none, slice_split_first, length-slice_split}
 use Rattle.std.proofs.lemmas.List.Sums.{fails_before_first}
@@ -136,39 +136,12 @@ pub is_readable_line-short : (line : List ℕ) → length line ≤ 65536 → lis
 is_readable_line-short line h =
     let short : nat_le (length line) 65536 ≡ true = grind (arith, nat_tests) in rw short
 
--- fewer than five words are not known
-pub few-unknown : (words : List (Bor (List ℕ))) → 0 < length words → length words < 5 → Unknown ≡ command_of_words (map (λ word. word.now) words)
-few-unknown [] some few = absurd (omega arith)
-few-unknown (a ∷ []) some few = refl
-few-unknown (a ∷ b ∷ []) some few = refl
-few-unknown (a ∷ b ∷ c ∷ []) some few = refl
-few-unknown (a ∷ b ∷ c ∷ d ∷ []) some few = refl
-few-unknown (a ∷ b ∷ c ∷ d ∷ e ∷ words) some few = absurd (omega arith)
-
--- nor are more
-pub many-unknown : (words : List (Bor (List ℕ))) → 5 < length words → Unknown ≡ command_of_words (map (λ word. word.now) words)
-many-unknown [] many = absurd (omega arith)
-many-unknown (a ∷ []) many = absurd (omega arith)
-many-unknown (a ∷ b ∷ []) many = absurd (omega arith)
-many-unknown (a ∷ b ∷ c ∷ []) many = absurd (omega arith)
-many-unknown (a ∷ b ∷ c ∷ d ∷ []) many = absurd (omega arith)
-many-unknown (a ∷ b ∷ c ∷ d ∷ e ∷ []) many = absurd (omega arith)
-many-unknown (a ∷ b ∷ c ∷ d ∷ e ∷ f ∷ words) many = refl
-
--- a conjunction where one does not hold
-and_false : (a b : Bool) → (a ≡ false) ⊎ (b ≡ false) → (a && b) ≡ false
-and_false false b other = refl
-and_false true b other = elim other [ inl e ↦ cc e | inr e ↦ e ]
-
--- and five are not, where the first or the third is another word
-pub other-unknown : (words : List (Bor (List ℕ))) (none : Bor (List ℕ)) → 4 < length words → length words < 6
-    → (bytes_eq (get_or words 0 none).now (codes "filter") ≡ false) ⊎ (bytes_eq (get_or words 2 none).now (codes "range") ≡ false) → Unknown ≡ command_of_words (map (λ word. word.now) words)
-other-unknown [] none many few other = absurd (omega arith)
-other-unknown (a ∷ []) none many few other = absurd (omega arith)
-other-unknown (a ∷ b ∷ []) none many few other = absurd (omega arith)
-other-unknown (a ∷ b ∷ c ∷ []) none many few other = absurd (omega arith)
-other-unknown (a ∷ b ∷ c ∷ d ∷ []) none many few other = absurd (omega arith)
-other-unknown (a ∷ b ∷ c ∷ d ∷ e ∷ []) none many few other =
-    let unlike : (bytes_eq a.now (codes "filter") && bytes_eq c.now (codes "range")) ≡ false = and_false (bytes_eq a.now (codes "filter")) (bytes_eq c.now (codes "range")) other in
-    rw unlike refl
-other-unknown (a ∷ b ∷ c ∷ d ∷ e ∷ f ∷ words) none many few other = absurd (omega arith)
+-- words are not known where there are some, and neither two nor five
+pub count-unknown : (words : List (Bor (List ℕ))) → 0 < length words → (length words ≡ 2 → ⊥) → (length words ≡ 5 → ⊥) → Unknown ≡ command_of_words (map (λ word. word.now) words)
+count-unknown [] some two five = absurd (omega arith)
+count-unknown (a ∷ []) some two five = refl
+count-unknown (a ∷ b ∷ []) some two five = absurd (two refl)
+count-unknown (a ∷ b ∷ c ∷ []) some two five = refl
+count-unknown (a ∷ b ∷ c ∷ d ∷ []) some two five = refl
+count-unknown (a ∷ b ∷ c ∷ d ∷ e ∷ []) some two five = absurd (five refl)
+count-unknown (a ∷ b ∷ c ∷ d ∷ e ∷ f ∷ words) some two five = refl

@@ -1,11 +1,15 @@
 -- What a board is seen as.
-use Rattle.std.specs.Prelude.{◌*◌, ◌≤◌, List, length}
+use Rattle.std.specs.Prelude.{◌≡◌, ◌*◌, ◌≤◌, List, length}
 use Rattle.std.specs.List.{AllByRecursion}
 use Rattle.xf_base.specs.Schema.{IsRowOf}
 use Rattle.xf_base.specs.declared.cell.Cell.{Cell}
 use Rattle.xf_base.specs.declared.column.Column.{Column}
+use Rattle.xf_base.specs.declared.column.ColumnKind.TheVariants as kind
 use Rattle.xf_base.specs.declared.limits.TheConstants.Limits.{DIMENSIONS, ENTRIES, ROWS}
-use Rattle.xf_engine.specs.Cross.{IsInt}
+
+-- a column of whole numbers
+abbrev pub IsInt : Column → Type 0
+IsInt column = column.kind ≡ kind.Int
 
 -- the columns, and the rows of the records
 pub record BoardParts : Type 0 where

@@ -1,11 +1,12 @@
 -- What a run owes for its words and the files that its depot tells: how it ends, and what it puts, where nothing fails.
-use Rattle.std.specs.Prelude.{ℕ, ◌==◌, nat_lt, if◌then◌else◌, codes, decimal, List, [], ◌∷◌, ◌++◌, length, replicate, Option, Some, None, Result, Ok, Err}
+use Rattle.std.specs.Prelude.{ℕ, ◌==◌, nat_lt, if◌then◌else◌, codes, decimal, List, [], ◌∷◌, ◌++◌, length, Option, Some, None, Result, Ok, Err}
 use Rattle.std.specs.FinMap.{get}
 use Rattle.xf_app.specs.Board.{board_of}
 use Rattle.xf_app.specs.BoardParts.{BoardParts}
 use Rattle.xf_app.specs.Page.{data_view}
 use Rattle.xf_app.specs.Script.{lines_of}
 use Rattle.xf_app.specs.Session.{command}
+use Rattle.xf_app.specs.Standard.{StockState, standard_of}
 use Rattle.xf_app.specs.Words.{names_of}
 use Rattle.xf_app.specs.declared.board.BoardFault.{BoardFault}
 use Rattle.xf_app.specs.declared.board.BoardFault.TheVariants as fault
@@ -14,7 +15,7 @@ use Rattle.xf_app.specs.declared.status.Status.TheVariants as status
 use Rattle.xf_base.specs.Bounds.{standard}
 use Rattle.xf_base.specs.Word.{word_text}
 use Rattle.xf_base.specs.declared.limits.TheConstants.Limits.{ENTRIES, FILE_BYTES, ROWS}
-use Rattle.xf_engine.specs.Cross.{State}
+use Rattle.xf_engine.specs.Changes.{with_rows}
 use Rattle.xf_model.specs.Replay.{Progress, replay}
 use Rattle.xf_outside.specs.Account.{Files}
 
@@ -47,16 +48,16 @@ refused_line cause = codes "board refused " ++ board_cause cause ++ 10 ∷ []
 
 -- ---- the session
 
--- the state in which the session of a board begins: its records, and no filter
-abbrev pub start_of : BoardParts → State
-start_of board = record { columns = board.columns; limits = standard; rows = board.rows; ranges = replicate (length board.columns) None }
+-- the state in which the session of a board begins: a dimension and a group of each column, no filter, and its records
+abbrev pub start_of : BoardParts → StockState
+start_of board = with_rows (standard_of board.columns standard) board.rows
 
 -- the session of a board, line by line
-abbrev pub session_of : BoardParts → List ℕ → Progress State
+abbrev pub session_of : BoardParts → List ℕ → Progress StockState
 session_of board session = replay command data_view (start_of board) (lines_of session)
 
 -- what is due for lines that have brought a session so far
-abbrev pub progress_due : Progress State → Due
+abbrev pub progress_due : Progress StockState → Due
 progress_due progress = record {
   status = if progress.refusals == 0 then status.Done else status.DoneWithRefusals;
   text = progress.text;

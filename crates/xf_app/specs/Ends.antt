@@ -3,17 +3,17 @@ use Rattle.std.specs.Prelude.{◌≡◌, ◌⊎◌, ℕ, ◌+◌, List}
 use Rattle.xf_app.specs.Due.{Due, absent_due, refused_due, too_long_due}
 use Rattle.xf_app.specs.Page.{data_view}
 use Rattle.xf_app.specs.Put.{Puts, PutsPart}
-use Rattle.xf_app.specs.Run.{CountsFaults, HasCause, Headline, MeetsDue, RunAccount}
+use Rattle.xf_app.specs.Run.{CountsFaults, CountsMisses, HasCause, Headline, MeetsDue, RunAccount}
 use Rattle.xf_app.specs.Session.{command}
+use Rattle.xf_app.specs.Standard.{StockState}
 use Rattle.xf_app.specs.declared.board.BoardFault.{BoardFault}
 use Rattle.xf_app.specs.declared.board.BoardFault.TheVariants as fault
 use Rattle.xf_app.specs.declared.replay.Tally.{Tally}
 use Rattle.xf_app.specs.declared.status.Status.{Status}
 use Rattle.xf_app.specs.declared.status.Status.TheVariants as status
-use Rattle.xf_engine.specs.Cross.{State}
 use Rattle.xf_model.specs.Replay.{outcome_text, refusal_count, state_after, step_count}
 use Rattle.xf_outside.specs.Account.{SinkAccount}
-use Rattle.xf_outside.specs.Count.{Rose}
+use Rattle.xf_outside.specs.Count.{RoseExactly}
 use Rattle.xf_outside.specs.declared.depot.FetchFault.{FetchFault}
 use Rattle.xf_outside.specs.declared.depot.FetchFault.TheVariants as fetch
 
@@ -21,10 +21,10 @@ use Rattle.xf_outside.specs.declared.depot.FetchFault.TheVariants as fetch
 abbrev pub PutsWhole : List ℕ → SinkAccount → SinkAccount → Type 0
 PutsWhole text before after = Puts before after text × (after.faults ≡ before.faults)
 
--- a first part of this text was put: the sink failed and counted it, or memory was refused and no fault was counted
+-- a first part of this text was put: the sink failed once and counted it, or memory was refused and no fault was counted
 abbrev pub StopsIn : List ℕ → SinkAccount → SinkAccount → Status → Type 0
 StopsIn text before after got =
-    ((got ≡ status.WriteFault) × PutsPart before after text × Rose before.faults after.faults 1)
+    ((got ≡ status.WriteFault) × PutsPart before after text × RoseExactly before.faults after.faults 1)
     ⊎ ((got ≡ status.Memory) × PutsPart before after text × (after.faults ≡ before.faults))
 
 -- what is due was put and gave the status that is due, or it was not put whole
@@ -51,11 +51,11 @@ EndsUnfetched fetch.Failed name before after got = EndsSilent status.ReadFault b
 EndsUnfetched fetch.OutOfMemory name before after got = EndsSilent status.Memory before after got
 
 -- what is to be put for a line, where a session stands at this state after so many steps
-abbrev pub line_text : State → Tally → List ℕ → List ℕ
+abbrev pub line_text : StockState → Tally → List ℕ → List ℕ
 line_text state tally line = outcome_text data_view (tally.number + 1) (command state line)
 
 -- from the old state and numbers the line leads to the new ones
-pub record LeadsTo (old : State) (before : Tally) (line : List ℕ) (new : State) (after : Tally) : Type 0 where
+pub record LeadsTo (old : StockState) (before : Tally) (line : List ℕ) (new : StockState) (after : Tally) : Type 0 where
   pub state : new ≡ state_after old (command old line)
   pub number : after.number ≡ before.number + step_count (command old line)
   pub refusals : after.refusals ≡ before.refusals + refusal_count (command old line)
@@ -64,5 +64,6 @@ pub record LeadsTo (old : State) (before : Tally) (line : List ℕ) (new : State
 pub record IsRun (run : RunAccount) (got : Status) : Type 0 where
   pub cause : HasCause run got
   pub faults : CountsFaults run got
+  pub misses : CountsMisses run got
   pub due : MeetsDue run got
   pub headline : Headline run got

@@ -7,4 +7,5 @@ pub mod Put
 pub mod Run
 pub mod Script
 pub mod Session
+pub mod Standard
 pub mod Words

@@ -1,34 +1,39 @@
 -- The data view of a state: its counts, the whole `all`, and the group of each column.
-use Rattle.std.specs.Prelude.{ℕ, List, [], ◌∷◌, ◌++◌, codes, decimal, flat_map, length}
+use Rattle.std.specs.Prelude.{ℕ, List, [], ◌∷◌, ◌++◌, codes, decimal, flat_map, length, unwrap_or}
 use Rattle.std.specs.List.{enumerate_from}
+use Rattle.xf_access.specs.Round.{rounded_key}
+use Rattle.xf_access.specs.Stock.{keys_of_row}
+use Rattle.xf_app.specs.Standard.{StockState, whole}
 use Rattle.xf_base.specs.Fixed.{fixed_text}
 use Rattle.xf_base.specs.Form.{key_text}
 use Rattle.xf_base.specs.Word.{word_text}
 use Rattle.xf_base.specs.declared.column.Column.{Column}
-use Rattle.xf_base.specs.declared.form.AtomForm.TheVariants.{Fixed}
-use Rattle.xf_base.specs.declared.form.KeyForm.TheVariants.{One}
-use Rattle.xf_engine.specs.Cross.{State, entries_of, key_numbers, passing_count, whole_count}
+use Rattle.xf_engine.specs.Answers.{entries_of, passing_count, whole_count}
 use Rattle.xf_engine.specs.declared.key_number.KeyNumber.{KeyNumber}
 
 -- two blanks, the key as a word, a blank, its number
 abbrev pub entry_line : KeyNumber → List ℕ
-entry_line entry = codes "  " ++ word_text (key_text (One (Fixed 0)) entry.key) ++ 32 ∷ fixed_text entry.number 0 ++ 10 ∷ []
+entry_line entry = codes "  " ++ word_text (key_text whole entry.key) ++ 32 ∷ fixed_text entry.number 0 ++ 10 ∷ []
 
 -- the group of a column, under its name and the number of its keys
 abbrev pub group_lines : List ℕ → List KeyNumber → List ℕ
-group_lines name counts =
-    codes "group " ++ word_text name ++ 32 ∷ decimal (length counts) ++ 10 ∷ flat_map entry_line counts
+group_lines name entries =
+    codes "group " ++ word_text name ++ 32 ∷ decimal (length entries) ++ 10 ∷ flat_map entry_line entries
 
--- the group of each of these columns, which stand at their places
-abbrev pub groups_lines : State → List (ℕ × Column) → List ℕ
-groups_lines state placed = flat_map (λ (at : ℕ × Column). group_lines at.1.name (key_numbers (entries_of state at.0))) placed
+-- the entries of the group of an id; there are none where there is no such group
+abbrev pub group_entries : StockState → ℕ → List KeyNumber
+group_entries state id = unwrap_or (entries_of keys_of_row rounded_key state id) []
+
+-- the group of each of these columns, whose ids are the columns' places
+abbrev pub groups_lines : StockState → List (ℕ × Column) → List ℕ
+groups_lines state placed = flat_map (λ (at : ℕ × Column). group_lines at.1.name (group_entries state at.0)) placed
 
 -- the counts of a state: its records, those that pass, and the whole `all`, which counts
-abbrev pub counts_lines : State → List ℕ
+abbrev pub counts_lines : StockState → List ℕ
 counts_lines state =
-    codes "records " ++ decimal (length state.rows) ++ codes " passing " ++ decimal (passing_count state)
-    ++ codes "\nwhole all " ++ decimal (whole_count state) ++ 10 ∷ []
+    codes "records " ++ decimal (length state.rows) ++ codes " passing " ++ decimal (passing_count keys_of_row state)
+    ++ codes "\nwhole all " ++ decimal (whole_count keys_of_row state) ++ 10 ∷ []
 
 -- the counts of a state, and then the group of each column
-abbrev pub data_view : State → List ℕ
+abbrev pub data_view : StockState → List ℕ
 data_view state = counts_lines state ++ groups_lines state (enumerate_from 0 state.columns)

@@ -10,7 +10,7 @@ use Rattle.xf_app.specs.declared.status.Status.{Status}
 use Rattle.xf_app.specs.declared.status.Status.TheVariants as status
 use Rattle.xf_base.specs.declared.limits.TheConstants.Limits.{FILE_BYTES}
 use Rattle.xf_outside.specs.Account.{DepotAccount, Files, SinkAccount}
-use Rattle.xf_outside.specs.Count.{Rose}
+use Rattle.xf_outside.specs.Count.{Rose, RoseExactly}
 
 -- what stands outside a run: what its depot and its sink tell
 pub record Outside : Type 0 where
@@ -62,17 +62,37 @@ HasCause run status.Memory = ⊤
 HasCause run status.Absent = IsAccepted run × Rose run.before.depot.misses run.after.depot.misses 1
 HasCause run status.TooLong = IsAccepted run × Rose run.before.depot.taken run.after.depot.taken (FILE_BYTES + 1)
 
--- a count of faults stands still, but for the fault that the status tells
+-- a count of faults stands still, but for the fault that the status tells, which is counted once
 abbrev pub CountsFaults : RunAccount → Status → Type 0
 CountsFaults run status.Done = NoReadFault run × NoWriteFault run
 CountsFaults run status.DoneWithRefusals = NoReadFault run × NoWriteFault run
 CountsFaults run status.Usage = NoReadFault run × NoWriteFault run
 CountsFaults run status.BoardRefused = NoReadFault run × NoWriteFault run
-CountsFaults run status.ReadFault = NoWriteFault run
-CountsFaults run status.WriteFault = NoReadFault run
+CountsFaults run status.ReadFault = RoseExactly run.before.depot.faults run.after.depot.faults 1 × NoWriteFault run
+CountsFaults run status.WriteFault = NoReadFault run × RoseExactly run.before.sink.faults run.after.sink.faults 1
 CountsFaults run status.Memory = NoReadFault run × NoWriteFault run
 CountsFaults run status.Absent = NoReadFault run × NoWriteFault run
 CountsFaults run status.TooLong = NoReadFault run × NoWriteFault run
+
+-- no name that was asked for was missed
+abbrev pub NoMiss : RunAccount → Type 0
+NoMiss run = run.after.depot.misses ≡ run.before.depot.misses
+
+-- one name at most was missed
+abbrev pub OneMiss : RunAccount → Type 0
+OneMiss run = run.after.depot.misses ≤ run.before.depot.misses + 1
+
+-- no name was missed but the one that `Absent` tells, which was asked for once; its line may not have been put whole
+abbrev pub CountsMisses : RunAccount → Status → Type 0
+CountsMisses run status.Done = NoMiss run
+CountsMisses run status.DoneWithRefusals = NoMiss run
+CountsMisses run status.Usage = NoMiss run
+CountsMisses run status.BoardRefused = NoMiss run
+CountsMisses run status.ReadFault = NoMiss run
+CountsMisses run status.WriteFault = OneMiss run
+CountsMisses run status.Memory = OneMiss run
+CountsMisses run status.Absent = OneMiss run
+CountsMisses run status.TooLong = NoMiss run
 
 -- a run that stopped before what is due was put whole
 abbrev pub IsStopped : Status → Type 0

@@ -1,15 +1,16 @@
 -- What a line of a session says.
-use Rattle.std.specs.Prelude.{ℕ, ◌==◌, nat_lt, nat_le, Bool, false, ◌&&◌, ◌||◌, not, if◌then◌else◌, codes, List, [], ◌∷◌, length, filter, Option, Some, None, Result, Ok, Err, ℤ}
+use Rattle.std.specs.Prelude.{ℕ, ◌==◌, nat_lt, nat_le, Bool, false, ◌&&◌, ◌||◌, not, if◌then◌else◌, codes, List, [], ◌∷◌, length, filter, Result, Ok, Err, ℤ}
 use Rattle.std.specs.List.{list_all, slice_split}
 use Rattle.std.specs.Str.{bytes_eq}
 use Rattle.std.specs.Str.Lines.{lines}
 use Rattle.csv.specs.Reading.{strip_bom}
 use Rattle.xf_app.specs.declared.script.Command.{Command}
-use Rattle.xf_app.specs.declared.script.Command.TheVariants.{Skip, Unknown, Filter}
+use Rattle.xf_app.specs.declared.script.Command.TheVariants.{Skip, Unknown, Filter, Clear}
+use Rattle.xf_app.specs.declared.script.RangeEnds.{RangeEnds}
+use Rattle.xf_app.specs.declared.script.RangeEnds.TheVariants.{Numbers, NotNumbers}
 use Rattle.xf_base.specs.Fixed.{number_of}
 use Rattle.xf_base.specs.declared.limits.TheConstants.Limits.{LINE_BYTES}
 use Rattle.xf_base.specs.declared.fixed.NumberRefusal.{NumberRefusal}
-use Rattle.xf_engine.specs.declared.range.Range.{Range}
 
 -- the lines of a session: one byte order mark in front is dropped, the rest is cut at each line feed, a carriage return
 -- before one is dropped, and bytes after the last are a line
@@ -28,22 +29,26 @@ words_of line = filter (λ word. not (length word == 0)) (slice_split is_space l
 abbrev pub is_readable_line : List ℕ → Bool
 is_readable_line line = nat_le (length line) LINE_BYTES && list_all (λ byte. nat_lt byte 128 && not (byte == 34)) line
 
--- the range of two words, where both are whole numbers
-abbrev pub range_of : Result ℤ NumberRefusal → Result ℤ NumberRefusal → Option Range
-range_of (Ok low) (Ok high) = Some (record { low = low; high = high })
-range_of (Ok low) (Err refusal) = None
-range_of (Err refusal) (Ok high) = None
-range_of (Err refusal) (Err other) = None
+-- the ends that two words say, by what they are as whole numbers
+abbrev pub ends_of : Result ℤ NumberRefusal → Result ℤ NumberRefusal → RangeEnds
+ends_of (Ok low) (Ok high) = Numbers low high
+ends_of (Ok low) (Err refusal) = NotNumbers
+ends_of (Err refusal) (Ok high) = NotNumbers
+ends_of (Err refusal) (Err other) = NotNumbers
 
--- five words are a filter where the first and the third are `filter` and `range`
+-- two words take a filter away where the first is `clear`
+abbrev pub clear_of_words : List ℕ → List ℕ → Command
+clear_of_words verb dimension = if bytes_eq verb (codes "clear") then Clear dimension else Unknown
+
+-- five words set a filter where the first and the third are `filter` and `range`
 abbrev pub filter_of_words : List ℕ → List ℕ → List ℕ → List ℕ → List ℕ → Command
 filter_of_words verb dimension kind low high =
-    if bytes_eq verb (codes "filter") && bytes_eq kind (codes "range") then Filter dimension (range_of (number_of low 0) (number_of high 0)) else Unknown
+    if bytes_eq verb (codes "filter") && bytes_eq kind (codes "range") then Filter dimension (ends_of (number_of low 0) (number_of high 0)) else Unknown
 
 abbrev pub command_of_words : List (List ℕ) → Command
 command_of_words [] = Skip
 command_of_words (verb ∷ []) = Unknown
-command_of_words (verb ∷ dimension ∷ []) = Unknown
+command_of_words (verb ∷ dimension ∷ []) = clear_of_words verb dimension
 command_of_words (verb ∷ dimension ∷ kind ∷ []) = Unknown
 command_of_words (verb ∷ dimension ∷ kind ∷ low ∷ []) = Unknown
 command_of_words (verb ∷ dimension ∷ kind ∷ low ∷ high ∷ []) = filter_of_words verb dimension kind low high

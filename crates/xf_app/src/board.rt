@@ -7,9 +7,6 @@ ghost use Rattle.xf_app.specs.Board.{board_columns, board_of, field_of, int_colu
 ghost use Rattle.xf_load.specs.Load.{rows_of};
 ghost use Rattle.xf_load.specs.Records.{records_of};
 
-#[cfg(test)]
-mod tests;
-
 use csv::ByteRecord;
 use std::alloc::Global;
 use std::collections::HashSet;

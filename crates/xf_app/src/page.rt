@@ -1,33 +1,35 @@
-//! The data view of a crossfilter: its counts, the whole `all`, and the group of each column.
+//! The data view of a standard crossfilter: its counts, the whole `all`, and the group of each column.
 ghost use Rattle.std.specs.Prelude.{◌≡◌, ◌++◌, OnOk};
 ghost use Rattle.xf_app.specs.Page.{counts_lines, data_view, entry_line, group_lines};
 ghost use Rattle.xf_base.specs.Fixed.{fixed_text};
 ghost use Rattle.xf_base.specs.Form.{key_text};
 ghost use Rattle.xf_base.specs.Word.{word_text};
 
+use crate::standard::{StandardCross, StockCross};
 use std::alloc::Global;
 use std::sync::ledger::Ledger;
 use xf_base::{AtomForm, Key, KeyForm, OutOfMemory, Steps, put_fixed, put_number, put_word};
-use xf_engine::{Cross, KeyNumber};
+use xf_engine::KeyNumber;
 
 /// Appends the data view: `records SIZE passing COUNT`, `whole all COUNT`, and for each column `group NAME KEYS` with
 /// a line `  KEY COUNT` for each of its keys. Where memory is refused a part of it may stand in `out`.
 pub fn put_data_view<L: Ledger>(
     alloc: Global,
     out: &mut Vec<u8>,
-    cross: &Cross,
+    standard: &StandardCross,
     steps: &mut Steps<L>,
 ) -> Result<(), OutOfMemory>
-    ensures ok { OnOk result (out.new.items ≡ out.old.items ++ data_view cross.now) }
+    ensures ok { OnOk result (out.new.items ≡ out.old.items ++ data_view standard.now) }
 {
+    let cross = standard.cross();
     put_counts(out, cross, steps)?;
     for (place, column) in cross.schema().as_slice().iter().enumerate() {
-        let counts = cross.group_all(alloc, place, steps)?;
+        let entries = standard.group_all(place, steps)?;
         put_group(
             alloc,
             out,
             column.name.as_str().as_bytes(),
-            counts.as_slice(),
+            entries.as_slice(),
         )?;
     }
     Ok(())
@@ -36,7 +38,7 @@ pub fn put_data_view<L: Ledger>(
 /// Appends how many records there are and how many pass, and the whole `all`, which counts those.
 fn put_counts<L: Ledger>(
     out: &mut Vec<u8>,
-    cross: &Cross,
+    cross: &StockCross,
     steps: &mut Steps<L>,
 ) -> Result<(), OutOfMemory>
     ensures ok { OnOk result (out.new.items ≡ out.old.items ++ counts_lines cross.now) }
@@ -57,17 +59,17 @@ fn put_group(
     alloc: Global,
     out: &mut Vec<u8>,
     name: &[u8],
-    counts: &[KeyNumber],
+    entries: &[KeyNumber],
 ) -> Result<(), OutOfMemory>
-    ensures ok { OnOk result (out.new.items ≡ out.old.items ++ group_lines name.now counts.now) }
+    ensures ok { OnOk result (out.new.items ≡ out.old.items ++ group_lines name.now entries.now) }
 {
     out.extend_from_slice(b"group ")?;
     put_word(out, name)?;
     out.push(b' ')?;
-    put_number(out, counts.len() as u64)?;
+    put_number(out, entries.len() as u64)?;
     out.push(b'\n')?;
-    for count in counts {
-        put_entry(alloc, out, count)?;
+    for entry in entries {
+        put_entry(alloc, out, entry)?;
     }
     Ok(())
 }

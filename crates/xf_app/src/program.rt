@@ -1,7 +1,7 @@
 //! The program: the way from its words to a board and a session, and what is put for them.
 ghost use Rattle.std.specs.Prelude.{◌≡◌, None, map, string_bytes};
 ghost use Rattle.xf_app.specs.Ends.{IsRun};
-ghost use Rattle.xf_app.specs.Run.{CountsFaults, HasCause, Headline, MeetsDue, run_account};
+ghost use Rattle.xf_app.specs.Run.{CountsFaults, CountsMisses, HasCause, Headline, MeetsDue, run_account};
 ghost use Rattle.xf_app.specs.Words.{names_of};
 
 use crate::board::read_board;
@@ -25,13 +25,16 @@ pub fn run<D: Depot, S: Sink, L: Ledger>(
     sink: &mut S,
     steps: &mut Steps<L>,
 ) -> Status
-    // Why it ended so: the cause of each status, and that no count of faults rises but for the fault that is told.
+    // Why it ended so: the cause of each status, and that no count rises but for the one fault or miss that is told.
     ensures cause { let run = run_account (map string_bytes words.now)
         (D.account depot.old, S.account sink.old) (D.account depot.new, S.account sink.new)
         in HasCause run result }
     ensures faults { let run = run_account (map string_bytes words.now)
         (D.account depot.old, S.account sink.old) (D.account depot.new, S.account sink.new)
         in CountsFaults run result }
+    ensures misses { let run = run_account (map string_bytes words.now)
+        (D.account depot.old, S.account sink.old) (D.account depot.new, S.account sink.new)
+        in CountsMisses run result }
 
     // What was put: all that is due for these words and files, with the status that is due, or a first part of it.
     ensures due { let run = run_account (map string_bytes words.now)

@@ -12,11 +12,11 @@ use crate::output::put;
 use crate::page::put_data_view;
 use crate::script::{first_line, text_of};
 use crate::session::{Reply, apply, put_step};
+use crate::standard::StandardCross;
 use crate::status::Status;
 use std::alloc::Global;
 use std::sync::ledger::Ledger;
-use xf_base::{Limits, OutOfMemory, Steps};
-use xf_engine::{AddRefusal, Cross};
+use xf_base::{OutOfMemory, Steps};
 use xf_outside::Sink;
 
 /// Plays a session on a board from its first state.
@@ -29,13 +29,9 @@ pub fn play<S: Sink, L: Ledger>(
 ) -> Status
     ensures { Ends (progress_due (session_of board session.now)) (S.account sink.old) (S.account sink.new) result }
 {
-    let Board { schema, rows } = board;
-    let mut cross = Cross::new(alloc, schema, Limits::standard());
-    match cross.add_records(rows, steps) {
-        Ok(()) => replay(alloc, cross, text_of(session), sink, steps),
-        Err(AddRefusal::OutOfMemory) => Status::Memory,
-        // A board is within the limits.
-        Err(_) => unreachable!(),
+    match StandardCross::of(alloc, board, steps) {
+        Ok(cross) => replay(alloc, cross, text_of(session), sink, steps),
+        Err(OutOfMemory) => Status::Memory,
     }
 }
 
@@ -49,7 +45,7 @@ pub struct Tally {
 /// Takes the lines of a text in turn, and puts what is written for each in one piece.
 fn replay<S: Sink, L: Ledger>(
     alloc: Global,
-    mut cross: Cross,
+    mut cross: StandardCross,
     text: &[u8],
     sink: &mut S,
     steps: &mut Steps<L>,
@@ -79,7 +75,7 @@ fn replay<S: Sink, L: Ledger>(
 /// Does one line, and puts what is written for it. An error is the status with which the run ends.
 fn advance<S: Sink, L: Ledger>(
     alloc: Global,
-    cross: &mut Cross,
+    cross: &mut StandardCross,
     line: &[u8],
     tally: &mut Tally,
     out: &mut Vec<u8>,
@@ -103,7 +99,7 @@ fn advance<S: Sink, L: Ledger>(
 /// nothing. Where memory is refused the line may be done already; the run ends then.
 fn step<L: Ledger>(
     alloc: Global,
-    cross: &mut Cross,
+    cross: &mut StandardCross,
     line: &[u8],
     tally: &mut Tally,
     out: &mut Vec<u8>,

@@ -4,12 +4,11 @@ ghost use Rattle.std.specs.List.{AllByRecursion};
 ghost use Rattle.std.specs.Str.{IsAscii};
 ghost use Rattle.std.specs.Str.Lines.{lines, strip_carriage_return};
 ghost use Rattle.csv.specs.Reading.{strip_bom};
-ghost use Rattle.xf_app.specs.Script.{command_of, command_of_words, is_readable_line, range_of, words_of};
+ghost use Rattle.xf_app.specs.Script.{clear_of_words, command_of, command_of_words, ends_of, filter_of_words, is_readable_line, words_of};
 ghost use Rattle.xf_base.specs.Fixed.{number_of};
 
 use std::alloc::Global;
 use xf_base::{Limits, OutOfMemory, Text, read_fixed};
-use xf_engine::Range;
 
 /// What a line says.
 #[derive(Debug, Drop)]
@@ -18,11 +17,19 @@ pub enum Command {
     Skip,
     /// Nothing that is known.
     Unknown,
-    /// `filter DIMENSION range LOW HIGH`; the range is None where LOW or HIGH is no whole number.
-    Filter {
-        dimension: Text,
-        range: Option<Range>,
-    },
+    /// `filter DIMENSION range LOW HIGH`.
+    Filter { dimension: Text, ends: RangeEnds },
+    /// `clear DIMENSION`.
+    Clear { dimension: Text },
+}
+
+/// The ends of a range, as its two words say them.
+#[derive(Clone, Copy, Debug, PartialEq, Eq)]
+pub enum RangeEnds {
+    /// From `low` on and below `high`.
+    Numbers { low: i64, high: i64 },
+    /// One of the words at least is no whole number.
+    NotNumbers,
 }
 
 /// A session's bytes after one byte order mark, if it has one.
@@ -97,15 +104,44 @@ fn command_of_words(alloc: Global, words: &[&[u8]]) -> Result<Command, OutOfMemo
 {
     match words {
         [] => Ok(Command::Skip),
-        [verb, dimension, kind, low, high]
-            if *verb == b"filter".as_slice() && *kind == b"range".as_slice() => {
-            Ok(Command::Filter {
-                dimension: text_of_word(alloc, dimension)?,
-                range: range_of(low, high),
-            })
+        [verb, dimension] => clear_of_words(alloc, verb, dimension),
+        [verb, dimension, kind, low, high] => {
+            filter_of_words(alloc, verb, dimension, kind, low, high)
         }
         _ => Ok(Command::Unknown),
     }
+}
+
+/// What two words say.
+fn clear_of_words(alloc: Global, verb: &[u8], dimension: &[u8]) -> Result<Command, OutOfMemory>
+    requires { IsAscii dimension.now }
+    ensures { IfOk result (λ command. command ≡ clear_of_words verb.now dimension.now) }
+{
+    if verb != b"clear".as_slice() {
+        return Ok(Command::Unknown);
+    }
+    let dimension = text_of_word(alloc, dimension)?;
+    Ok(Command::Clear { dimension })
+}
+
+/// What five words say.
+fn filter_of_words(
+    alloc: Global,
+    verb: &[u8],
+    dimension: &[u8],
+    kind: &[u8],
+    low: &[u8],
+    high: &[u8],
+) -> Result<Command, OutOfMemory>
+    requires { IsAscii dimension.now }
+    ensures { IfOk result (λ command. command ≡ filter_of_words verb.now dimension.now kind.now low.now high.now) }
+{
+    if verb != b"filter".as_slice() || kind != b"range".as_slice() {
+        return Ok(Command::Unknown);
+    }
+    let dimension = text_of_word(alloc, dimension)?;
+    let ends = ends_of(low, high);
+    Ok(Command::Filter { dimension, ends })
 }
 
 /// A word of ASCII as a text.
@@ -119,15 +155,12 @@ fn text_of_word(alloc: Global, word: &[u8]) -> Result<Text, OutOfMemory>
     }
 }
 
-/// The range from one word on and below another, where both are whole numbers.
-fn range_of(low: &[u8], high: &[u8]) -> Option<Range>
-    ensures { result ≡ range_of (number_of low.now 0) (number_of high.now 0) }
+/// The ends of a range, from one word on and below another.
+fn ends_of(low: &[u8], high: &[u8]) -> RangeEnds
+    ensures { result ≡ ends_of (number_of low.now 0) (number_of high.now 0) }
 {
     match (read_fixed(low, 0), read_fixed(high, 0)) {
-        (Ok(low), Ok(high)) => Some(Range { low, high }),
-        _ => None,
+        (Ok(low), Ok(high)) => RangeEnds::Numbers { low, high },
+        _ => RangeEnds::NotNumbers,
     }
 }
-
-#[cfg(test)]
-mod tests;

@@ -1,14 +1,13 @@
-//! A line of a session, done on a crossfilter, and its answer.
-ghost use Rattle.std.specs.Prelude.{◌≡◌, [], ◌∷◌, ◌++◌, IfOk, OnErr, OnOk, codes, decimal};
-ghost use Rattle.xf_app.specs.Session.{command, filter_outcome, refusal_words, reply_outcome, reply_text};
-ghost use Rattle.xf_base.specs.Schema.{place_of};
+//! A line of a session, done on a standard crossfilter, and its answer.
+ghost use Rattle.std.specs.Prelude.{◌≡◌, ◌<◌, [], ◌∷◌, ◌++◌, IfOk, IfSome, OnErr, OnOk, codes, decimal, length};
+ghost use Rattle.xf_app.specs.Session.{clear_outcome, command, filter_outcome, id_of_name, refusal_words, reply_outcome, reply_text};
 ghost use Rattle.xf_model.specs.Replay.{state_after};
 
-use crate::script::{Command, read_command};
+use crate::script::{Command, RangeEnds, read_command};
+use crate::standard::StandardCross;
 use std::alloc::Global;
 use std::sync::ledger::Ledger;
-use xf_base::{OutOfMemory, Steps, Text, put_number, put_word};
-use xf_engine::{Cross, Range};
+use xf_base::{Key, OutOfMemory, Steps, Text, put_number, put_word};
 
 /// Why a line is refused. A refused line changes nothing.
 #[derive(Debug, Drop)]
@@ -27,14 +26,14 @@ pub enum Reply {
     /// The line is no step.
     Skipped,
     Refused(Refusal),
-    /// A filter was set, and so many records moved.
+    /// A filter was set or taken away, and so many records moved.
     Moved(u64),
 }
 
 /// Does what a line says.
 pub fn apply<L: Ledger>(
     alloc: Global,
-    cross: &mut Cross,
+    cross: &mut StandardCross,
     line: &[u8],
     steps: &mut Steps<L>,
 ) -> Result<Reply, OutOfMemory>
@@ -45,27 +44,48 @@ pub fn apply<L: Ledger>(
     Ok(match read_command(alloc, line)? {
         Command::Skip => Reply::Skipped,
         Command::Unknown => Reply::Refused(Refusal::UnknownVerb),
-        Command::Filter { dimension, range } => filter(cross, dimension, range, steps),
+        Command::Filter { dimension, ends } => filter(cross, dimension, ends, steps),
+        Command::Clear { dimension } => clear(cross, dimension, steps),
     })
 }
 
 /// Sets a range on the dimension of a name.
 fn filter<L: Ledger>(
-    cross: &mut Cross,
+    cross: &mut StandardCross,
     name: Text,
-    range: Option<Range>,
+    ends: RangeEnds,
     steps: &mut Steps<L>,
 ) -> Reply
-    ensures answer { reply_outcome result cross.new ≡ filter_outcome cross.old name range (place_of cross.old.columns name) }
-    ensures state { cross.new ≡ state_after cross.old (filter_outcome cross.old name range (place_of cross.old.columns name)) }
+    ensures answer { reply_outcome result cross.new ≡ filter_outcome cross.old name ends (id_of_name cross.old name) }
+    ensures state { cross.new ≡ state_after cross.old (filter_outcome cross.old name ends (id_of_name cross.old name)) }
 {
-    match (cross.schema().place_of(name.as_str().as_bytes()), range) {
+    match (place_of(cross, &name), ends) {
         (None, _) => Reply::Refused(Refusal::NoDimension { name }),
-        (Some(_), None) => Reply::Refused(Refusal::WrongKind),
-        (Some(place), Some(range)) => {
-            Reply::Moved(cross.set_filter(place, range.low, range.high, steps))
+        (Some(_), RangeEnds::NotNumbers) => Reply::Refused(Refusal::WrongKind),
+        (Some(place), RangeEnds::Numbers { low, high }) => {
+            let range = Some((Key::Num(low), Key::Num(high)));
+            Reply::Moved(cross.set_filter(place, range, steps))
         }
     }
+}
+
+/// Takes the filter of the dimension of a name away.
+fn clear<L: Ledger>(cross: &mut StandardCross, name: Text, steps: &mut Steps<L>) -> Reply
+    ensures answer { reply_outcome result cross.new ≡ clear_outcome cross.old name (id_of_name cross.old name) }
+    ensures state { cross.new ≡ state_after cross.old (clear_outcome cross.old name (id_of_name cross.old name)) }
+{
+    match place_of(cross, &name) {
+        None => Reply::Refused(Refusal::NoDimension { name }),
+        Some(place) => Reply::Moved(cross.set_filter(place, None, steps)),
+    }
+}
+
+/// The place of the column of a name, which is the id of its dimension.
+fn place_of(cross: &StandardCross, name: &Text) -> Option<usize>
+    ensures place { result ≡ id_of_name cross.now name.now }
+    ensures within { IfSome result (λ place. place < length cross.now.columns) }
+{
+    cross.cross().schema().place_of(name.as_str().as_bytes())
 }
 
 /// Appends the number and the words of a refusal.

@@ -1,6 +1,6 @@
 //! Files that are absent, too long or cannot be read, an output that fails, and memory that is refused.
 use super::case::{
-    ALL_STEPS, BOARD, Case, FIRST_STEP, PLAIN, SESSION, USAGE, see, words_between_bars,
+    ALL_STEPS, BOARD, Case, FIRST_STEP, PLAIN, SESSION, USAGE, see, see_words, words_between_bars,
 };
 use crate::{code_of, run};
 use std::alloc::Global;
@@ -23,105 +23,128 @@ step 3 ok moved 1
 records 3 passing 1
 who";
 
-/// A name, the words with a bar between them, and what is written.
-static ABSENT: [(&str, &str, &str); 7] = [
-    ("an absent board", "c.csv|s.txt", "absent c.csv\n"),
-    ("both files absent", "c.csv|t.txt", "absent c.csv\n"),
-    ("an absent session", "b.csv|t.txt", "absent t.txt\n"),
-    ("an empty name", "b.csv|", "absent \"\"\n"),
+/// A name, the words with a bar between them, the status, and what is written.
+static ABSENT: [(&str, &str, u8, &str); 7] = [
+    ("an absent board", "c.csv|s.txt", 7, "absent c.csv\n"),
+    ("both files absent", "c.csv|t.txt", 7, "absent c.csv\n"),
+    ("an absent session", "b.csv|t.txt", 7, "absent t.txt\n"),
+    ("an empty name", "b.csv|", 7, "absent \"\"\n"),
     (
         "a blank in a name",
         "b.csv|my s.txt",
+        7,
         "absent \"my s.txt\"\n",
     ),
-    ("a tab in a name", "b.csv|a\tb", "absent \"a\\tb\"\n"),
+    ("a tab in a name", "b.csv|a\tb", 7, "absent \"a\\tb\"\n"),
     (
         "a quote, a backslash and bytes above 127 in a name",
         "ü\"\\.csv|",
+        7,
         "absent \"ü\\\"\\\\.csv\"\n",
     ),
 ];
 
-/// A name, the words, and the number of the fetch that fails.
-static UNREAD: [(&str, &str, u64); 3] = [
-    ("a board that cannot be read", "b.csv|s.txt", 1),
-    ("a session that cannot be read", "b.csv|s.txt", 2),
+/// The number of the fetch that fails, and that of the put that fails with how many bytes it keeps; 0 for none.
+type Failing = (u64, (u64, u64));
+
+/// A name, the words, the calls that fail, the status, and what is written.
+static FAULTS: [(&str, &str, Failing, u8, &str); 15] = [
+    (
+        "a board that cannot be read",
+        "b.csv|s.txt",
+        (1, (0, 0)),
+        4,
+        "",
+    ),
+    (
+        "a session that cannot be read",
+        "b.csv|s.txt",
+        (2, (0, 0)),
+        4,
+        "",
+    ),
     (
         "a failing fetch of a file that is not there",
         "c.csv|s.txt",
-        1,
+        (1, (0, 0)),
+        4,
+        "",
     ),
-];
-
-/// A name, the words, the number of the put that fails and how many bytes it keeps, and what is written.
-static UNWRITTEN: [(&str, &str, (u64, u64), &str); 7] = [
-    ("a first step that is not put", "b.csv|s.txt", (1, 0), ""),
+    (
+        "a first step that is not put",
+        "b.csv|s.txt",
+        (0, (1, 0)),
+        5,
+        "",
+    ),
     (
         "a first step that is cut in its line",
         "b.csv|s.txt",
-        (1, 5),
+        (0, (1, 5)),
+        5,
         "step ",
     ),
     (
         "a second step that is not put",
         "b.csv|s.txt",
-        (2, 0),
+        (0, (2, 0)),
+        5,
         FIRST_STEP,
     ),
     (
         "a third step that is cut in its view",
         "b.csv|s.txt",
-        (3, 41),
+        (0, (3, 41)),
+        5,
         CUT_STEPS,
     ),
-    ("a usage line that is cut", "b.csv", (1, 5), "usage"),
+    ("a usage line that is cut", "b.csv", (0, (1, 5)), 5, "usage"),
     (
         "an absent line that is cut",
         "c.csv|s.txt",
-        (1, 7),
+        (0, (1, 7)),
+        5,
         "absent ",
     ),
     (
         "a board's refusal that is cut",
         "uneven.csv|s.txt",
-        (1, 6),
+        (0, (1, 6)),
+        5,
         "board ",
     ),
-];
-
-/// A name, the words, the number of the fetch that fails, the number of the put that fails and how many bytes it keeps,
-/// the status, and what is written.
-static ORDER: [(&str, &str, u64, (u64, u64), u8, &str); 5] = [
-    ("words before a failing fetch", "b.csv", 1, (0, 0), 2, USAGE),
+    (
+        "words before a failing fetch",
+        "b.csv",
+        (1, (0, 0)),
+        2,
+        USAGE,
+    ),
     (
         "a board's refusal before an absent session",
         "empty.csv|t.txt",
-        0,
-        (0, 0),
+        (0, (0, 0)),
         3,
         "board refused no header\n",
     ),
     (
         "a board's refusal before a failing fetch",
         "uneven.csv|s.txt",
-        2,
-        (0, 0),
+        (2, (0, 0)),
         3,
         "board refused uneven record 1\n",
     ),
     (
         "a failing fetch before a failing put",
         "b.csv|s.txt",
-        1,
-        (1, 9),
+        (1, (1, 9)),
         4,
         "",
     ),
     (
         "an end before calls that would fail",
         "b.csv|s.txt",
-        3,
-        (4, 0),
+        (3, (4, 0)),
         1,
         ALL_STEPS,
     ),
@@ -129,53 +152,12 @@ static ORDER: [(&str, &str, u64, (u64, u64), u8, &str); 5] = [
 
 #[test]
 fn tells_absent_files(rt: HostRuntime) -> Result<(), Fail> {
-    for (name, words, text) in &ABSENT {
-        let case = Case {
-            name,
-            words,
-            status: 7,
-            text,
-            ..PLAIN
-        };
-        see(&rt, rt.alloc(), &case)?;
-    }
-    Ok(())
+    see_words(&rt, rt.alloc(), &ABSENT)
 }
 
 #[test]
-fn ends_where_reading_fails(rt: HostRuntime) -> Result<(), Fail> {
-    for (name, words, failing) in &UNREAD {
-        let case = Case {
-            name,
-            words,
-            failing: *failing,
-            status: 4,
-            ..PLAIN
-        };
-        see(&rt, rt.alloc(), &case)?;
-    }
-    Ok(())
-}
-
-#[test]
-fn ends_where_writing_fails(rt: HostRuntime) -> Result<(), Fail> {
-    for (name, words, cut, text) in &UNWRITTEN {
-        let case = Case {
-            name,
-            words,
-            cut: *cut,
-            status: 5,
-            text,
-            ..PLAIN
-        };
-        see(&rt, rt.alloc(), &case)?;
-    }
-    Ok(())
-}
-
-#[test]
-fn tells_what_comes_first(rt: HostRuntime) -> Result<(), Fail> {
-    for (name, words, failing, cut, status, text) in &ORDER {
+fn ends_where_calls_fail(rt: HostRuntime) -> Result<(), Fail> {
+    for (name, words, (failing, cut), status, text) in &FAULTS {
         let case = Case {
             name,
             words,

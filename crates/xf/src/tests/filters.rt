@@ -1,5 +1,5 @@
 //! What filters move, and what each group shows under those of the other columns.
-use super::case::{Case, PLAIN, see};
+use super::case::{BOARD, see_sessions};
 use std::test::Fail;
 
 const THREE: &[u8] = b"x,y,z\n1,1,1\n1,2,3\n2,1,3\n2,2,1\n3,3,3\n";
@@ -147,8 +147,83 @@ group a 3
   3 1
 ";
 
+const TAKEN_AWAY: &[u8] =
+    b"filter a range 2 3\nfilter b range 10 30\nclear a\nclear a\nclear b\nfilter a range 3 2\nclear a\n";
+
+const ALL_TAKEN_AWAY: &str = "step 1 ok moved 1
+records 3 passing 2
+whole all 2
+group a 2
+  1 1
+  2 2
+group b 3
+  10 0
+  20 1
+  30 1
+step 2 ok moved 1
+records 3 passing 1
+whole all 1
+group a 2
+  1 1
+  2 1
+group b 3
+  10 0
+  20 1
+  30 1
+step 3 ok moved 1
+records 3 passing 2
+whole all 2
+group a 2
+  1 1
+  2 1
+group b 3
+  10 1
+  20 1
+  30 1
+step 4 ok moved 0
+records 3 passing 2
+whole all 2
+group a 2
+  1 1
+  2 1
+group b 3
+  10 1
+  20 1
+  30 1
+step 5 ok moved 1
+records 3 passing 3
+whole all 3
+group a 2
+  1 1
+  2 2
+group b 3
+  10 1
+  20 1
+  30 1
+step 6 ok moved 3
+records 3 passing 0
+whole all 0
+group a 2
+  1 1
+  2 2
+group b 3
+  10 0
+  20 0
+  30 0
+step 7 ok moved 3
+records 3 passing 3
+whole all 3
+group a 2
+  1 1
+  2 2
+group b 3
+  10 1
+  20 1
+  30 1
+";
+
 /// A name, a board, a session on it, and what is written.
-static SESSIONS: [(&str, &[u8], &[u8], &str); 3] = [
+static SESSIONS: [(&str, &[u8], &[u8], &str); 4] = [
     (
         "three filters at once, and another in the place of the first",
         THREE,
@@ -167,19 +242,15 @@ static SESSIONS: [(&str, &[u8], &[u8], &str); 3] = [
         b"filter a range 1 2\nfilter a range 2 9\n",
         ONE_COLUMN,
     ),
+    (
+        "filters that are taken away in another order, twice, and from an empty range",
+        BOARD,
+        TAKEN_AWAY,
+        ALL_TAKEN_AWAY,
+    ),
 ];
 
 #[test]
 fn moves_filters(rt: HostRuntime) -> Result<(), Fail> {
-    for (name, board, session, text) in &SESSIONS {
-        let case = Case {
-            name,
-            files: &[("b.csv", board), ("s.txt", session)],
-            status: 0,
-            text,
-            ..PLAIN
-        };
-        see(&rt, rt.alloc(), &case)?;
-    }
-    Ok(())
+    see_sessions(&rt, rt.alloc(), 0, &SESSIONS)
 }

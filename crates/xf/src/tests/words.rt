@@ -1,5 +1,5 @@
 //! Which words are accepted.
-use super::case::{ALL_STEPS, Case, PLAIN, USAGE, see};
+use super::case::{ALL_STEPS, USAGE, see_words};
 use std::test::Fail;
 
 /// A name, the words with a bar between them, the status, and what is written.
@@ -37,15 +37,5 @@ static CASES: [(&str, &str, u8, &str); 14] = [
 
 #[test]
 fn answers_words(rt: HostRuntime) -> Result<(), Fail> {
-    for (name, words, status, text) in &CASES {
-        let case = Case {
-            name,
-            words,
-            status: *status,
-            text,
-            ..PLAIN
-        };
-        see(&rt, rt.alloc(), &case)?;
-    }
-    Ok(())
+    see_words(&rt, rt.alloc(), &CASES)
 }

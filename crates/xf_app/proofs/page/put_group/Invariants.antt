@@ -4,5 +4,5 @@ use Rattle.xf_app.specs.Page.{entry_line}
 use Rattle.xf_app.proofs.page.put_group.Given as goal
 
 -- the lines of the entries so far
-abbrev pub invariant-loop-count : goal.invariant-loop-count
-invariant-loop-count l = l.out.items ≡ l.initial.out.items ++ flat_map entry_line (take l.count-index l.counts)
+abbrev pub invariant-loop-entry : goal.invariant-loop-entry
+invariant-loop-entry l = l.out.items ≡ l.initial.out.items ++ flat_map entry_line (take l.entry-index l.entries)

@@ -8,7 +8,7 @@ pub returns-in-Err-clause-meets : goal.returns-in-Err-clause-meets
 returns-in-Err-clause-meets g c =
     let run = run_account (map string_bytes c.args.words.now) (g.D.Depot.account c.args.depot.now, g.S.Sink.account c.args.sink.now) (g.D.Depot.account c.fetch.new.self, g.S.Sink.account c.tell_unfetched.new.sink) in
     let told = c.in-Err.ensures in
-    let missed = missed-first run c.in-Some.board_name.now c.in-Err.fault (λ e. told.absent (ap (λ fault. Err fault) e)) (λ e. told.too_long (ap (λ fault. Err fault) e)) told.faults in
+    let missed = missed-first run c.in-Some.board_name.now c.in-Err.fault (λ e. told.absent (ap (λ fault. Err fault) e)) (λ e. told.too_long (ap (λ fault. Err fault) e)) told.faults told.misses in
     run-no_board run c.in-Some.board_name.now c.in-Some.session_name.now c.in-Err.fault c.tell_unfetched.result (sym c.in-Some.ensures) missed c.tell_unfetched.ensures
 
 pub returns-in-Err-read_board-clause-meets : goal.returns-in-Err-read_board-clause-meets
@@ -16,7 +16,7 @@ returns-in-Err-read_board-clause-meets g c =
     let run = run_account (map string_bytes c.args.words.now) (g.D.Depot.account c.args.depot.now, g.S.Sink.account c.args.sink.now) (g.D.Depot.account c.fetch.new.self, g.S.Sink.account c.tell_refused.new.sink) in
     let first = c.in-Ok.ensures in
     let held = holds-fetched (g.D.Depot.account c.args.depot.now).files c.in-Some.board_name.now c.in-Ok.bytes.items first.fetched.0 first.fetched.1 in
-    run-refused run c.in-Some.board_name.now c.in-Some.session_name.now c.in-Ok.bytes.items c.read_board.result c.in-Err-read_board.fault c.tell_refused.result (sym c.in-Some.ensures) held first.faults
+    run-refused run c.in-Some.board_name.now c.in-Some.session_name.now c.in-Ok.bytes.items c.read_board.result c.in-Err-read_board.fault c.tell_refused.result (sym c.in-Some.ensures) held first.faults first.misses
     (rw c.as_slice.ensures.value at c.read_board.ensures.board) c.in-Err-read_board.is c.tell_refused.ensures
 
 pub returns-in-Err-fetch-clause-meets : goal.returns-in-Err-fetch-clause-meets
@@ -26,8 +26,8 @@ returns-in-Err-fetch-clause-meets g c =
     let told = c.in-Err-fetch.ensures in
     let held = holds-fetched (g.D.Depot.account c.args.depot.now).files c.in-Some.board_name.now c.in-Ok.bytes.items first.fetched.0 first.fetched.1 in
     let made = read-made c.in-Ok.bytes.items c.read_board.result c.in-Ok-read_board.board (rw c.as_slice.ensures.value at c.read_board.ensures.board) c.in-Ok-read_board.is in
-    let missed = missed-second run c.in-Some.session_name.now c.in-Err-fetch.fault (g.D.Depot.account c.fetch.new.self) first.tells first.faults first.misses_stay first.taken_stay
-    (λ e. told.absent (ap (λ fault. Err fault) e)) (λ e. told.too_long (ap (λ fault. Err fault) e)) told.faults in
+    let missed = missed-second run c.in-Some.session_name.now c.in-Err-fetch.fault (g.D.Depot.account c.fetch.new.self) first.tells first.faults first.misses first.taken_stay
+    (λ e. told.absent (ap (λ fault. Err fault) e)) (λ e. told.too_long (ap (λ fault. Err fault) e)) told.faults told.misses in
     run-no_session run c.in-Some.board_name.now c.in-Some.session_name.now c.in-Ok.bytes.items c.in-Ok-read_board.board c.in-Err-fetch.fault c.tell_unfetched-in-Err-fetch.result (sym c.in-Some.ensures) held made missed c.tell_unfetched-in-Err-fetch.ensures
 
 pub returns-clause-meets : goal.returns-clause-meets
@@ -39,4 +39,4 @@ returns-clause-meets g c =
     let session_held = rw first.tells at (holds-fetched (g.D.Depot.account c.fetch.new.self).files c.in-Some.session_name.now c.in-Ok-fetch.session.items second.fetched.0 second.fetched.1) in
     let made = read-made c.in-Ok.bytes.items c.read_board.result c.in-Ok-read_board.board (rw c.as_slice.ensures.value at c.read_board.ensures.board) c.in-Ok-read_board.is in
     run-played run c.in-Some.board_name.now c.in-Some.session_name.now c.in-Ok.bytes.items c.in-Ok-fetch.session.items c.in-Ok-read_board.board c.play.result (sym c.in-Some.ensures) held session_held made
-    (second.faults ∙ first.faults) (rw c.as_slice-2.ensures.value at c.play.ensures)
+    (second.faults ∙ first.faults) (second.misses ∙ first.misses) (rw c.as_slice-2.ensures.value at c.play.ensures)
