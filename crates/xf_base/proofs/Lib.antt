@@ -1,6 +1,7 @@
 pub mod DayParts
 pub mod DaysOfDates
 pub mod EqualKeys
+pub mod KeptItems
 pub mod Misfits
 pub mod NumberWords
 pub mod ReadBackDates

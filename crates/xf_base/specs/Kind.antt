@@ -1,4 +1,5 @@
 -- The kinds of keys and of their forms.
+use Rattle.std.specs.Prelude.{Bool, true, false, ◌&&◌}
 use Rattle.xf_base.specs.declared.key.Atom.{Atom}
 use Rattle.xf_base.specs.declared.key.Atom.TheVariants as atom
 use Rattle.xf_base.specs.declared.key.Key.{Key}
@@ -38,3 +39,21 @@ kind_of_one atom_kind.Text = key_kind.Text
 abbrev pub kind_of_key_form : KeyForm → KeyKind
 kind_of_key_form (key_form.One form) = kind_of_one (kind_of_atom_form form)
 kind_of_key_form (key_form.Pair first second) = key_kind.Pair (kind_of_atom_form first) (kind_of_atom_form second)
+
+-- whether two kinds are the same
+abbrev pub is_same_atom_kind : AtomKind → AtomKind → Bool
+is_same_atom_kind atom_kind.Num atom_kind.Num = true
+is_same_atom_kind atom_kind.Num atom_kind.Text = false
+is_same_atom_kind atom_kind.Text atom_kind.Num = false
+is_same_atom_kind atom_kind.Text atom_kind.Text = true
+
+abbrev pub is_same_kind : KeyKind → KeyKind → Bool
+is_same_kind key_kind.Num key_kind.Num = true
+is_same_kind key_kind.Num key_kind.Text = false
+is_same_kind key_kind.Num (key_kind.Pair u v) = false
+is_same_kind key_kind.Text key_kind.Num = false
+is_same_kind key_kind.Text key_kind.Text = true
+is_same_kind key_kind.Text (key_kind.Pair u v) = false
+is_same_kind (key_kind.Pair x y) key_kind.Num = false
+is_same_kind (key_kind.Pair x y) key_kind.Text = false
+is_same_kind (key_kind.Pair x y) (key_kind.Pair u v) = is_same_atom_kind x u && is_same_atom_kind y v

@@ -7,5 +7,6 @@ pub mod Schema
 pub mod Fixed
 pub mod Date
 pub mod Form
+pub mod Gone
 pub mod LimitsFields
 pub mod Word

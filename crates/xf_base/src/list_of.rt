@@ -1,6 +1,8 @@
 //! A list that contracts see as the list of its items.
+ghost use Rattle.xf_base.specs.Gone.{kept};
 ghost use Rattle.std.specs.Prelude.{◌≡◌, ◌==◌, ◌≤◌, ◌↔◌, [], ◌∷◌, ◌++◌, length, IsNone, OnOk, OnErr, option_copied, slice_get};
 
+use crate::gone::{Gone, compact};
 use crate::out_of_memory::OutOfMemory;
 use std::alloc::Global;
 use std::marker::Model;
@@ -92,5 +94,13 @@ impl<T: Drop> ListOf<T> {
     {
         self.items.push(item)?;
         Ok(())
+    }
+    /// Keeps the items whose places are not removed, in order. It takes no memory.
+    pub fn retain(&mut self, gone: &Gone)
+        requires { length gone.now ≡ length self.old }
+        ensures { self.new ≡ kept gone.now self.old }
+    {
+        let count = compact(self.items.as_mut_slice(), gone);
+        self.items.truncate(count);
     }
 }

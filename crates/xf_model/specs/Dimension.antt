@@ -5,7 +5,7 @@
 use Rattle.std.specs.Prelude.{ℕ, Bool, true, false, ◌&&◌, ◌||◌, List, Option, Some, None, filter, remove}
 use Rattle.std.specs.List.{list_all, list_any}
 use Rattle.std.specs.declared.cmp.Ordering.{Ordering}
-use Rattle.std.specs.Ordering.{is_le, is_lt}
+use Rattle.std.specs.Ordering.{is_eq, is_le, is_lt}
 
 -- a filter: whether it is "all", and whether it holds for a key
 pub record Filter (Key : Type 0) : Type 0 where
@@ -16,9 +16,17 @@ pub record Filter (Key : Type 0) : Type 0 where
 abbrev pub all : {Key : Type 0} → Filter Key
 all = record { is_all = true; holds = λ _. true }
 
+-- the keys that equal one
+abbrev pub exactly : {Key : Type 0} → (Key → Key → Ordering) → Key → Filter Key
+exactly cmp value = record { is_all = false; holds = λ key. is_eq (cmp key value) }
+
 -- the keys from the low end on that are below the high end
 abbrev pub range : {Key : Type 0} → (Key → Key → Ordering) → Key → Key → Filter Key
 range cmp low high = record { is_all = false; holds = λ key. is_le (cmp low key) && is_lt (cmp key high) }
+
+-- the keys of which a function says yes
+abbrev pub such_that : {Key : Type 0} → (Key → Bool) → Filter Key
+such_that says = record { is_all = false; holds = says }
 
 -- a dimension: the keys of a row, ascending and distinct, and the filter that is set
 pub record Dimension (Row Key : Type 0) : Type 0 where

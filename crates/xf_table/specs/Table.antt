@@ -1,8 +1,9 @@
 -- What a table holds.
-use Rattle.std.specs.Prelude.{ℕ, ◌-◌, ◌^◌, ◌≤◌, ◌≡◌, List, ◌++◌, length, sum_by, min}
+use Rattle.std.specs.Prelude.{ℕ, Bool, ◌-◌, ◌^◌, ◌≤◌, ◌≡◌, List, ◌++◌, length, sum_by, min}
 use Rattle.std.specs.List.{AllByRecursion}
 use Rattle.xf_base.specs.Bounds.{Bounds}
 use Rattle.xf_base.specs.Cell.{row_bytes}
+use Rattle.xf_base.specs.Gone.{kept}
 use Rattle.xf_base.specs.Schema.{IsRowOf}
 use Rattle.xf_base.specs.declared.cell.Cell.{Cell}
 use Rattle.xf_base.specs.declared.column.Column.{Column}
@@ -20,6 +21,10 @@ text_of_rows rows = min (sum_by row_bytes rows) (2 ^ 64 - 1)
 -- the table with more rows at its end
 abbrev pub with_rows : Contents → List (List Cell) → Contents
 with_rows table rows = record { columns = table.columns; limits = table.limits; rows = table.rows ++ rows }
+
+-- the table without the rows at the places that are removed
+abbrev pub kept_rows : List Bool → Contents → Contents
+kept_rows gone table = record { columns = table.columns; limits = table.limits; rows = kept gone table.rows }
 
 -- what is true of every table: each row is of the columns, rows and text are within their limits, and the
 -- text is counted

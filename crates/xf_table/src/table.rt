@@ -1,15 +1,17 @@
 //! The table: what it keeps, and what it tells of it.
-ghost use Rattle.std.specs.Prelude.{◌≡◌, ◌⊎◌, ◌==◌, ◌+◌, ◌<◌, [], length, IfErr, OnOk, OnErr, slice_get, Some, None};
+ghost use Rattle.std.specs.Prelude.{◌≡◌, ◌⊎◌, ◌==◌, ◌+◌, ◌^◌, ◌<◌, ◌≤◌, [], length, sum_by, IfErr, OnOk, OnErr, slice_get, Some, None};
 ghost use Rattle.std.specs.List.{enumerate_from};
+ghost use Rattle.xf_base.specs.Cell.{row_bytes};
+ghost use Rattle.xf_base.specs.Gone.{kept};
 ghost use Rattle.xf_table.specs.Append.{mismatch_of, refusal_of};
 
 use crate::append_refusal::AppendRefusal;
 use std::alloc::Global;
 use std::marker::Model;
 use std::sync::ledger::Ledger;
-use xf_base::{Limits, OutOfMemory, Row, RowList, Schema, Steps};
+use xf_base::{Gone, Limits, OutOfMemory, Row, RowList, Schema, Steps};
 
-/// The records that are present. Rows are only added, at the end.
+/// The records that are present. Rows are added at the end, and those that are kept stay in order.
 #[derive(Drop)]
 pub struct Table {
     schema: Schema,
@@ -29,7 +31,7 @@ impl Model for Table {
 }
 
 impl Table {
-    ghost use Rattle.xf_table.specs.Table.{with_rows, text_of_rows};
+    ghost use Rattle.xf_table.specs.Table.{kept_rows, with_rows, text_of_rows};
 
     /// A table without rows, which takes no memory yet.
     pub fn new(alloc: Global, schema: Schema, limits: Limits) -> Table
@@ -87,6 +89,15 @@ impl Table {
         Ok(())
     }
 
+    /// Keeps the rows whose places are not removed, in order. It takes no memory and no step.
+    pub fn retain(&mut self, gone: &Gone)
+        requires { length gone.now ≡ length self.old.rows }
+        ensures { self.new ≡ kept_rows gone.now self.old }
+    {
+        self.text -= removed_text(self.rows.as_slice(), gone);
+        self.rows.retain(gone);
+    }
+
     /// The row at a place from 0 on.
     pub fn row<L: Ledger>(&self, place: usize, steps: &mut Steps<L>) -> &Row
         requires { place < length self.now.rows }
@@ -123,7 +134,8 @@ impl Table {
 
     /// The bytes of text of all rows, or `u64::MAX` where there are more.
     pub fn text(&self) -> u64
-        ensures { result ≡ text_of_rows self.now.rows }
+        ensures total { result ≡ text_of_rows self.now.rows }
+        ensures few { result ≤ self.now.limits.text_bytes }
     {
         self.text
     }
@@ -155,4 +167,19 @@ fn first_mismatch(schema: &Schema, rows: &[Row]) -> Option<AppendRefusal>
         }
     }
     None
+}
+
+/// The bytes of text of the rows whose places are removed.
+fn removed_text(rows: &[Row], gone: &Gone) -> u64
+    requires places { length gone.now ≡ length rows.now }
+    requires few { sum_by row_bytes rows.now < 2 ^ 64 }
+    ensures { result + sum_by row_bytes (kept gone.now rows.now) ≡ sum_by row_bytes rows.now }
+{
+    let mut removed: u64 = 0;
+    for (place, row) in rows.iter().enumerate() {
+        if gone.is_gone(place) {
+            removed += row.text_bytes();
+        }
+    }
+    removed
 }

@@ -1,7 +1,7 @@
-use Rattle.std.proofs.Common.{◌≡◌, true, pos, ◌-◌, ◌-ℤ◌, Some, sym, ap, ◌∙◌, arith}
-use Rattle.std.specs.Int.{cast_signed, cast_unsigned, w64}
+use Rattle.std.proofs.Common.{◌≡◌, true, Some, sym, ap, arith}
+use Rattle.std.specs.Int.{w64}
 use Rattle.std.proofs.lemmas.Int.{ints, to_z-of_z}
-use Rattle.xf_base.specs.Date.{is_day, IsDateOf, year_start}
+use Rattle.xf_base.specs.Date.{is_day, IsDateOf}
 use Rattle.xf_base.proofs.DayParts.{is_day-IsDay, year_start-date}
 use Rattle.xf_base.proofs.date.year_start.Goals as goal
 
