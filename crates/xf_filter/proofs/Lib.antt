@@ -1,0 +1,13 @@
+mod Misfits
+mod Again
+mod Bad
+mod Begun
+mod CountWords
+mod Counts
+mod Depths
+mod Found
+mod Items
+mod Local
+mod Printed
+mod ReadBack
+mod Steps
