@@ -6,4 +6,3 @@ pub mod Round
 pub mod NumberLaws
 pub mod TextLaws
 pub mod RoundLaws
-pub mod Own

@@ -6,14 +6,14 @@ use Rattle.std.proofs.lemmas.Bool.{cases_lt}
 use Rattle.std.proofs.lemmas.Int.{ints, clamps}
 use Rattle.std.proofs.lemmas.Nat.{le-div}
 use Rattle.std.proofs.Math.Nat.{div-mul-le_self, mul-le-mul_left}
-use Rattle.jiff_core.specs.Calendar.{IsCivilDate, day_count, days_from_civil}
+use Rattle.jiff_core.specs.Calendar.{IsCivilDate, day_count}
 use Rattle.jiff_core.proofs.SignedLemmas.{signed_arith}
 use Rattle.jiff_core.proofs.CalendarLemmas.{days_from_civil-day_count, day_count-day_of_year, day_count-lt_year, day_count-lt_month, day_count-day, days_in_month_bounds}
 use Rattle.xf_base.specs.Date.{year_of, month_of, day_of_month, is_day, month_start, year_start}
 use Rattle.xf_base.specs.Schema.{IsDay}
 use Rattle.xf_base.specs.declared.date.TheConstants.{FIRST_DAY}
 use Rattle.xf_base.proofs.DayParts.{is_day-IsDay}
-use Rattle.xf_base.proofs.DaysOfDates.{IsSplit, day_split}
+use Rattle.xf_base.proofs.DaysOfDates.{day_split}
 use Rattle.xf_base.proofs.ReadDates.{day_count-first_day}
 use Rattle.xf_access.specs.Round.{floor_to, is_width, rounded_number}
 use Rattle.xf_access.specs.declared.stock_rounding.StockRounding.{StockRounding}
@@ -91,10 +91,6 @@ record IsStart (start : ℤ → ℤ) : Type 0 where
   keeps : (x y : ℤ) → IsDay x → IsDay y → x ≤ℤ y → start x ≤ℤ start y
   below : (x : ℤ) → IsDay x → start x ≤ℤ x
   within : (x : ℤ) → IsDay x → FIRST_DAY ≤ℤ start x
-
--- how many days stand before the one that a day's parts say
-counted : (x : ℤ) (y m d : ℕ) → IsSplit x y m d → days_from_civil (pos y) m d ≡ x
-counted x y m d split = split.whole
 
 month_is_start : IsStart month_start
 month_is_start = record {

@@ -3,11 +3,15 @@ use Rattle.std.proofs.Common.{◌≡◌, ℕ, ◌<◌, ◌≤◌, ◌==◌, nat_
 use Rattle.std.proofs.lemmas.Bool.Decides.{nat_tests}
 use Rattle.std.specs.List.{AllByRecursion, filter, find, position}
 use Rattle.xf_base.specs.declared.key.Key.{Key}
-use Rattle.xf_engine.specs.Changes.{with_range, without_dimension, without_group}
-use Rattle.xf_engine.specs.Refusals.{group_refusal_of}
-use Rattle.xf_engine.specs.State.{LiveDimension, LiveGroup, State, dimension_ids, dimension_place, group_place, has_id, is_taken}
+use Rattle.xf_base.specs.declared.kind.KeyKind.{KeyKind}
+use Rattle.xf_engine.specs.Changes.{without_dimension, without_group}
+use Rattle.xf_engine.specs.Refusals.{filter_refusal_for, filter_refusal_of, group_refusal_of, wrong_kind}
+use Rattle.xf_engine.specs.State.{LiveDimension, LiveGroup, State, dimension_ids, dimension_named, dimension_place, group_place, has_id, is_taken}
+use Rattle.xf_engine.specs.declared.filter_refusal.FilterRefusal.TheVariants as refusal
 use Rattle.xf_engine.specs.declared.group_refusal.GroupRefusal.TheVariants as group
-use Rattle.xf_engine.proofs.ById.{apart, filter-free, map-free}
+use Rattle.xf_filter.specs.Filter.{filter_keys, first_other}
+use Rattle.xf_filter.specs.declared.filter.Filter.{Filter}
+use Rattle.xf_engine.proofs.ById.{apart, filter-free}
 use Rattle.xf_engine.proofs.FreeId.{free-unplaced}
 use Rattle.xf_engine.proofs.Named.{find-placed, find-unplaced}
 
@@ -26,31 +30,50 @@ some-found p (x ∷ xs) some = go (position p (x ∷ xs)) refl some
     go (Some place) e t = ap is_some (find-placed p (x ∷ xs) place x e)
 
 -- a group is refused where its dimension is not live, or where there are too many
-pub refused-no_dimension : {A G : Type 0} (state : State A G) (id : ℕ) → is_some (dimension_place state id) ≡ false → group_refusal_of state id ≡ Some (group.NoDimension id)
+pub refused-no_dimension : {A G P : Type 0} (state : State A G P) (id : ℕ) → is_some (dimension_place state id) ≡ false → group_refusal_of state id ≡ Some (group.NoDimension id)
 refused-no_dimension state id none =
     ap (λ found. cond (is_some found) (cond (nat_le state.limits.groups (length state.groups)) (Some (group.TooManyGroups state.limits.groups)) None) (Some (group.NoDimension id)))
     (find-unplaced (has_id id) state.dimensions (none-of (dimension_place state id) none))
 
-pub refused-groups : {A G : Type 0} (state : State A G) (id : ℕ) → is_some (dimension_place state id) ≡ true → state.limits.groups ≤ length state.groups → group_refusal_of state id ≡ Some (group.TooManyGroups state.limits.groups)
+pub refused-groups : {A G P : Type 0} (state : State A G P) (id : ℕ) → is_some (dimension_place state id) ≡ true → state.limits.groups ≤ length state.groups → group_refusal_of state id ≡ Some (group.TooManyGroups state.limits.groups)
 refused-groups state id some full =
     let test : nat_le state.limits.groups (length state.groups) ≡ true = grind (arith, nat_tests, full) in
     ap (λ b. cond b (cond (nat_le state.limits.groups (length state.groups)) (Some (group.TooManyGroups state.limits.groups)) None) (Some (group.NoDimension id))) (some-found (has_id id) state.dimensions some)
     ∙ ap (λ b. cond b (Some (group.TooManyGroups state.limits.groups)) None) test
 
-pub accepted-group : {A G : Type 0} (state : State A G) (id : ℕ) → is_some (dimension_place state id) ≡ true → length state.groups < state.limits.groups → group_refusal_of state id ≡ None
+pub accepted-group : {A G P : Type 0} (state : State A G P) (id : ℕ) → is_some (dimension_place state id) ≡ true → length state.groups < state.limits.groups → group_refusal_of state id ≡ None
 accepted-group state id some room =
     let test : nat_le state.limits.groups (length state.groups) ≡ false = grind (arith, nat_tests, room) in
     ap (λ b. cond b (cond (nat_le state.limits.groups (length state.groups)) (Some (group.TooManyGroups state.limits.groups)) None) (Some (group.NoDimension id))) (some-found (has_id id) state.dimensions some)
     ∙ ap (λ b. cond b (Some (group.TooManyGroups state.limits.groups)) None) test
 
--- nothing changes where nothing has the id
-pub no-group : {A G : Type 0} (state : State A G) (id : ℕ) → group_place state id ≡ None → state ≡ without_group state id
-no-group {A} {G} state id none =
-    ap (λ groups. record state { groups = groups }) (sym (filter-free (λ (g : LiveGroup G). g.id) id state.groups (free-unplaced (λ (g : LiveGroup G). g.id) id state.groups none)))
+-- a filter is refused where its dimension is not live, and where a key of it is of another kind
+pub refused-unplaced : {A G P : Type 0} (kind_of : A → KeyKind) (keys_in : P → List Key) (state : State A G P) (id : ℕ) (new : Filter P) → dimension_place state id ≡ None → filter_refusal_of kind_of keys_in state id new ≡ Some (refusal.NoDimension id)
+refused-unplaced kind_of keys_in state id new none = ap (filter_refusal_for kind_of keys_in id new) (find-unplaced (has_id id) state.dimensions none)
 
-pub no-range : {A G : Type 0} (state : State A G) (id : ℕ) (ends : Option (Key × Key)) → dimension_place state id ≡ None → state ≡ with_range state id ends
-no-range {A} {G} state id ends none =
-    ap (λ dimensions. record state { dimensions = dimensions }) (sym (map-free (λ (d : LiveDimension A). d.id) (λ d. record d { range = ends }) id state.dimensions (free-unplaced (λ (d : LiveDimension A). d.id) id state.dimensions none)))
+pub refused-kind : {A G P : Type 0} (kind_of : A → KeyKind) (keys_in : P → List Key) (state : State A G P) (id : ℕ) (new : Filter P) (live : LiveDimension A P) (wanted given : KeyKind) → dimension_named state id ≡ Some live → wanted ≡ kind_of live.accessor → first_other wanted (filter_keys keys_in new) ≡ Some given → filter_refusal_of kind_of keys_in state id new ≡ Some (refusal.WrongKind wanted given)
+refused-kind kind_of keys_in state id new live wanted given named kind other =
+    ap (filter_refusal_for kind_of keys_in id new) named
+    ∙ ap (λ own. wrong_kind own (first_other own (filter_keys keys_in new))) (sym kind)
+    ∙ ap (wrong_kind wanted) other
+
+pub accepted-filter : {A G P : Type 0} (kind_of : A → KeyKind) (keys_in : P → List Key) (state : State A G P) (id : ℕ) (new : Filter P) (live : LiveDimension A P) → dimension_named state id ≡ Some live → first_other (kind_of live.accessor) (filter_keys keys_in new) ≡ None → filter_refusal_of kind_of keys_in state id new ≡ None
+accepted-filter kind_of keys_in state id new live named none =
+    ap (filter_refusal_for kind_of keys_in id new) named ∙ ap (wrong_kind (kind_of live.accessor)) none
+
+no-other : (wanted : KeyKind) (given : Option KeyKind) → wrong_kind wanted given ≡ None → given ≡ None
+no-other wanted None none = refl
+no-other wanted (Some given) none = absurd cc
+
+-- the keys of a filter that is not refused are of the dimension's kind
+pub fits-accepted : {A G P : Type 0} (kind_of : A → KeyKind) (keys_in : P → List Key) (state : State A G P) (id : ℕ) (new : Filter P) (live : LiveDimension A P) → dimension_named state id ≡ Some live → filter_refusal_of kind_of keys_in state id new ≡ None → first_other (kind_of live.accessor) (filter_keys keys_in new) ≡ None
+fits-accepted kind_of keys_in state id new live named accepted =
+    no-other (kind_of live.accessor) (first_other (kind_of live.accessor) (filter_keys keys_in new)) (sym (ap (filter_refusal_for kind_of keys_in id new) named) ∙ accepted)
+
+-- nothing changes where nothing has the id
+pub no-group : {A G P : Type 0} (state : State A G P) (id : ℕ) → group_place state id ≡ None → state ≡ without_group state id
+no-group {A} {G} {P} state id none =
+    ap (λ groups. record state { groups = groups }) (sym (filter-free (λ (g : LiveGroup G). g.id) id state.groups (free-unplaced (λ (g : LiveGroup G). g.id) id state.groups none)))
 
 flip : (a b : ℕ) → (a == b) ≡ false → (b == a) ≡ false
 flip a b e = grind (arith, nat_tests, e)
@@ -63,8 +86,8 @@ no-groups {G} ids id (group ∷ groups) free live =
     let rest : List (LiveGroup G) = filter (λ (g : LiveGroup G). not (g.dimension == id)) groups in
     ap (λ b. cond (not b) (group ∷ rest) rest) other ∙ ap (λ gs. group ∷ gs) (no-groups ids id groups free live.1)
 
-pub no-dimension : {A G : Type 0} (state : State A G) (id : ℕ) → AllByRecursion (λ (group : LiveGroup G). is_taken (dimension_ids state.dimensions) group.dimension ≡ true) state.groups → dimension_place state id ≡ None → state ≡ without_dimension state id
-no-dimension {A} {G} state id live none =
-    let free : is_taken (dimension_ids state.dimensions) id ≡ false = free-unplaced (λ (d : LiveDimension A). d.id) id state.dimensions none in
-    ap (λ dimensions. record state { dimensions = dimensions }) (sym (filter-free (λ (d : LiveDimension A). d.id) id state.dimensions free))
+pub no-dimension : {A G P : Type 0} (state : State A G P) (id : ℕ) → AllByRecursion (λ (group : LiveGroup G). is_taken (dimension_ids state.dimensions) group.dimension ≡ true) state.groups → dimension_place state id ≡ None → state ≡ without_dimension state id
+no-dimension {A} {G} {P} state id live none =
+    let free : is_taken (dimension_ids state.dimensions) id ≡ false = free-unplaced (λ (d : LiveDimension A P). d.id) id state.dimensions none in
+    ap (λ dimensions. record state { dimensions = dimensions }) (sym (filter-free (λ (d : LiveDimension A P). d.id) id state.dimensions free))
     ∙ ap (λ groups. record (without_dimension state id) { groups = groups }) (sym (no-groups (dimension_ids state.dimensions) id state.groups free live))

@@ -7,7 +7,8 @@ use Rattle.xf_engine.specs.Held.{held_group_ids, held_ids, live_dimensions, live
 use Rattle.xf_engine.proofs.Named.{position_live, position_live_group}
 use Rattle.xf_engine.specs.declared.dimension.Dimension.{Dimension}
 use Rattle.xf_engine.specs.declared.group.Group.{Group}
-use Rattle.xf_engine.specs.State.{group_has_id, has_id, is_taken}
+use Rattle.xf_engine.specs.State.{group_has_id, has_id, id_numbers, is_taken}
+use Rattle.xf_engine.specs.declared.ids.DimensionId.{DimensionId}
 
 -- the ids but one
 others : ℕ → List ℕ → List ℕ
@@ -89,7 +90,7 @@ pub taken-held : {X : Type 0} (of : X → ℕ) (id : ℕ) (held : List X) → is
 taken-held of id [] = refl
 taken-held of id (one ∷ held) = ap (λ later. (of one == id) || later) (taken-held of id held)
 
-pub taken_dimension : {A : Type 0} (id : ℕ) (held : List (Dimension A)) → is_some (position (has_id id) (live_dimensions held)) ≡ is_taken (held_ids held) id
+pub taken_dimension : {A P : Type 0} (id : ℕ) (held : List (Dimension A P)) → is_some (position (has_id id) (live_dimensions held)) ≡ is_taken (held_ids held) id
 taken_dimension id held =
     ap is_some (position_live id held) ∙ sym (taken-placed (λ dimension. dimension.id.0 == id) held) ∙ sym (taken-held (λ dimension. dimension.id.0) id held)
 
@@ -107,3 +108,7 @@ taken-if-placed of id xs some = taken-held of id xs ∙ taken-placed (λ x. of x
 -- what is taken has a place
 pub placed-if-taken : {X : Type 0} (of : X → ℕ) (id : ℕ) (xs : List X) → is_taken (map of xs) id ≡ true → is_some (position (λ x. of x == id) xs) ≡ true
 placed-if-taken of id xs taken = sym (taken-placed (λ x. of x == id) xs) ∙ sym (taken-held of id xs) ∙ taken
+
+-- an id is one of some where one of them is the same
+pub ids_taken : (id : ℕ) (ids : List DimensionId) → is_taken (id_numbers ids) id ≡ list_any (λ own. own.0 == id) ids
+ids_taken id ids = taken-held (λ own. own.0) id ids

@@ -136,13 +136,13 @@ entries-key_rows {Row} dimensions own round keys rows =
     ∙ map_same here there (λ q. ap (entry q) (count_rows q passes rounded rows)) (distinct_keys key_cmp (map key_of all))
 
 -- what is made of the sorted keys of all rows is the entries
-pub entries_at-sorted : {A Memory : Type 0} (keys_of : A → List Cell → List Key) (dimensions : List (held.Dimension A)) (rows : List (List Cell)) (round : Key → Key) (own : ℕ) (collected sorted seen : List KeyRow) (result : Result (Vec KeyNumber Memory) OutOfMemory)
-    → collected ≡ key_rows_at keys_of (live_dimensions dimensions) rows round own → IsPermutation collected sorted → seen ≡ sorted
-    → IfOk result (λ v. v.items ≡ key_numbers (entries_by seen)) → IfOk result (λ v. v.items ≡ key_numbers (entries_at keys_of (live_dimensions dimensions) rows round own))
-entries_at-sorted keys_of dimensions rows round own collected sorted seen result all moved same made =
+pub entries_at-sorted : {A P Memory : Type 0} (keys_of : A → List Cell → List Key) (says : P → Key → Bool) (dimensions : List (held.Dimension A P)) (rows : List (List Cell)) (round : Key → Key) (own : ℕ) (collected sorted seen : List KeyRow) (result : Result (Vec KeyNumber Memory) OutOfMemory)
+    → collected ≡ key_rows_at keys_of says (live_dimensions dimensions) rows round own → IsPermutation collected sorted → seen ≡ sorted
+    → IfOk result (λ v. v.items ≡ key_numbers (entries_by seen)) → IfOk result (λ v. v.items ≡ key_numbers (entries_at keys_of says (live_dimensions dimensions) rows round own))
+entries_at-sorted keys_of says dimensions rows round own collected sorted seen result all moved same made =
     let lives = live_dimensions dimensions in
-    let whole : entries_at keys_of lives rows round own ≡ entries_by seen =
-    entries-key_rows (dimensions_of keys_of lives) own round (keys_under keys_of (slice_get lives own)) rows
+    let whole : entries_at keys_of says lives rows round own ≡ entries_by seen =
+    entries-key_rows (dimensions_of keys_of says lives) own round (keys_under keys_of (slice_get lives own)) rows
     ∙ ap entries_by (sym all)
     ∙ counts_of-IsPermutation key_cmp_total key_cmp-exact key_of does_pass collected sorted moved
     ∙ ap entries_by (sym same) in

@@ -1,5 +1,5 @@
 -- What is held of one dimension, as the state says it.
-use Rattle.std.proofs.Common.{◌≡◌, ℕ, zero, suc, ◌+◌, ◌<◌, ◌≤◌, ◌^◌, Bool, true, List, [], ◌∷◌, ◌++◌, Option, length, map, get_or, refl, sym, ap, subst, ◌∙◌, arith}
+use Rattle.std.proofs.Common.{◌≡◌, ℕ, zero, suc, ◌+◌, ◌<◌, ◌≤◌, ◌^◌, Bool, true, List, [], ◌∷◌, ◌++◌, length, map, get_or, refl, sym, ap, subst, ◌∙◌, arith}
 use Rattle.std.proofs.lemmas.List.{get_or-map, length-map, map-append}
 use Rattle.std.proofs.lemmas.List.Sums.{sum_by-append, sum_by-cons}
 use Rattle.std.specs.List.{AllByRecursion, sum_by}
@@ -13,9 +13,12 @@ use Rattle.xf_base.specs.declared.key.Key.{Key}
 use Rattle.xf_base.specs.declared.kind.KeyKind.{KeyKind}
 use Rattle.xf_engine.specs.Answers.{moved_to}
 use Rattle.xf_engine.specs.Held.{HoldsKeysOf, IsCross, held_count, live_dimension, live_dimensions, live_group, live_groups, more_count, with_keys_of}
-use Rattle.xf_engine.specs.State.{LiveDimension, LiveGroup, entries_by, filter_of}
+use Rattle.xf_engine.specs.State.{LiveDimension, LiveGroup, entries_by}
 use Rattle.xf_engine.specs.declared.dimension.Dimension.{Dimension}
+use Rattle.xf_engine.specs.declared.events.Events.{Events}
 use Rattle.xf_engine.specs.declared.group.Group.{Group}
+use Rattle.xf_filter.specs.Filter.{filter_of}
+use Rattle.xf_filter.specs.declared.filter.Filter.{Filter}
 use Rattle.xf_model.specs.Moved.{moved_keys}
 use Rattle.xf_table.specs.Table.{Contents}
 
@@ -25,17 +28,17 @@ all-get P [] i d e all = absurd (omega (arith, e))
 all-get P (x ∷ xs) zero d e all = all.0
 all-get P (x ∷ xs) (suc i) d e all = all-get P xs i d (omega (arith, e)) all.1
 
-pub live-at : {A : Type 0} (P : LiveDimension A → Type 0) (held : List (Dimension A)) (place : ℕ) (d : Dimension A) → AllByRecursion P (live_dimensions held) → place < length held → d ≡ get_or held place d → P (live_dimension d)
-live-at P held place d all within here =
+pub live-at : {A P : Type 0} (Q : LiveDimension A P → Type 0) (held : List (Dimension A P)) (place : ℕ) (d : Dimension A P) → AllByRecursion Q (live_dimensions held) → place < length held → d ≡ get_or held place d → Q (live_dimension d)
+live-at Q held place d all within here =
     let at : get_or (live_dimensions held) place (live_dimension d) ≡ live_dimension d = get_or-map live_dimension held place d (live_dimension d) within ∙ ap live_dimension (sym here) in
-    subst P at (all-get P (live_dimensions held) place (live_dimension d) (omega (arith, within, length-map held live_dimension)) all)
+    subst Q at (all-get Q (live_dimensions held) place (live_dimension d) (omega (arith, within, length-map held live_dimension)) all)
 
 pub live-group-at : {G : Type 0} (P : LiveGroup G → Type 0) (held : List (Group G)) (place : ℕ) (d : Group G) → AllByRecursion P (live_groups held) → place < length held → d ≡ get_or held place d → P (live_group d)
 live-group-at P held place d all within here =
     let at : get_or (live_groups held) place (live_group d) ≡ live_group d = get_or-map live_group held place d (live_group d) within ∙ ap live_group (sym here) in
     subst P at (all-get P (live_groups held) place (live_group d) (omega (arith, within, length-map held live_group)) all)
 
-pub keys-at : {A : Type 0} (keys_of : A → List Cell → List Key) (rows : List (List Cell)) (held : List (Dimension A)) (place : ℕ) (d : Dimension A) → AllByRecursion (HoldsKeysOf keys_of rows) held → place < length held → d ≡ get_or held place d → HoldsKeysOf keys_of rows d
+pub keys-at : {A P : Type 0} (keys_of : A → List Cell → List Key) (rows : List (List Cell)) (held : List (Dimension A P)) (place : ℕ) (d : Dimension A P) → AllByRecursion (HoldsKeysOf keys_of rows) held → place < length held → d ≡ get_or held place d → HoldsKeysOf keys_of rows d
 keys-at keys_of rows held place d all within here = subst (HoldsKeysOf keys_of rows) (sym here) (all-get (HoldsKeysOf keys_of rows) held place d within all)
 
 -- sums over what is mapped, and one part of a sum
@@ -43,26 +46,26 @@ pub sum-map : {X Y : Type 0} (f : Y → ℕ) (g : X → Y) (xs : List X) → sum
 sum-map f g [] = refl
 sum-map f g (x ∷ xs) = omega (arith, sum_by-cons f (g x) (map g xs), sum_by-cons (λ y. f (g y)) x xs, sum-map f g xs)
 
-sum-part : {X : Type 0} (f : X → ℕ) (xs : List X) (i : ℕ) (d : X) → i < length xs → f (get_or xs i d) ≤ sum_by f xs
+pub sum-part : {X : Type 0} (f : X → ℕ) (xs : List X) (i : ℕ) (d : X) → i < length xs → f (get_or xs i d) ≤ sum_by f xs
 sum-part f [] i d e = absurd (omega (arith, e))
 sum-part f (x ∷ xs) zero d e = omega (arith, sum_by-cons f x xs)
 sum-part f (x ∷ xs) (suc i) d e = omega (arith, sum_by-cons f x xs, sum-part f xs i d (omega (arith, e)))
 
 -- the keys of a dimension are few
-pub held-few : {A G : Type 0} (keys_of : A → List Cell → List Key) (fits_to : A → List Column → Bool) (kind_of : A → KeyKind) (table : Contents) (dimensions : List (Dimension A)) (groups : List (Group G)) (place : ℕ) (d : Dimension A) → IsCross keys_of fits_to kind_of table dimensions groups → place < length dimensions → d ≡ get_or dimensions place d → sum_by length d.keys + length d.keys < 2 ^ 64
-held-few {A} keys_of fits_to kind_of table dimensions groups place d is within here =
+pub held-few : {A G P : Type 0} (keys_of : A → List Cell → List Key) (fits_to : A → List Column → Bool) (kind_of : A → KeyKind) (keys_in : P → List Key) (table : Contents) (dimensions : List (Dimension A P)) (groups : List (Group G)) (events : Events) (place : ℕ) (d : Dimension A P) → IsCross keys_of fits_to kind_of keys_in table dimensions groups events → place < length dimensions → d ≡ get_or dimensions place d → sum_by length d.keys + length d.keys < 2 ^ 64
+held-few {A} {G} {P} keys_of fits_to kind_of keys_in table dimensions groups events place d is within here =
     let keys : d.keys ≡ map (keys_of d.accessor) table.rows = keys-at keys_of table.rows dimensions place d is.keys within here in
     let rows : length d.keys ≡ length table.rows = ap length keys ∙ length-map table.rows (keys_of d.accessor) in
     let entries : sum_by length d.keys ≡ entries_by keys_of table.rows d.accessor = ap (sum_by length) keys ∙ sum-map length (keys_of d.accessor) table.rows in
-    let by : LiveDimension A → ℕ = λ live. entries_by keys_of table.rows live.accessor in
+    let by : LiveDimension A P → ℕ = λ live. entries_by keys_of table.rows live.accessor in
     let part : by (get_or (live_dimensions dimensions) place (live_dimension d)) ≤ sum_by by (live_dimensions dimensions) = sum-part by (live_dimensions dimensions) place (live_dimension d) (omega (arith, within, length-map dimensions live_dimension)) in
     let same : by (get_or (live_dimensions dimensions) place (live_dimension d)) ≡ entries_by keys_of table.rows d.accessor = ap by (get_or-map live_dimension dimensions place d (live_dimension d) within ∙ ap live_dimension (sym here)) in
     omega (arith, rows, entries, part, same, is.state.few_rows, is.state.few_entries, is.state.limits.rows, is.state.limits.entries)
 
 -- what moves among the keys that are held is what moves among the rows
-pub moved-held : {A : Type 0} (keys_of : A → List Cell → List Key) (rows : List (List Cell)) (d : Dimension A) (new : Option (Key × Key)) → HoldsKeysOf keys_of rows d → sum_by (moved_keys (filter_of d.range) (filter_of new)) d.keys ≡ moved_to keys_of rows new (live_dimension d)
-moved-held keys_of rows d new holds =
-    ap (sum_by (moved_keys (filter_of d.range) (filter_of new))) holds ∙ sum-map (moved_keys (filter_of d.range) (filter_of new)) (keys_of d.accessor) rows
+pub moved-held : {A P : Type 0} (keys_of : A → List Cell → List Key) (says : P → Key → Bool) (rows : List (List Cell)) (d : Dimension A P) (new : Filter P) → HoldsKeysOf keys_of rows d → sum_by (moved_keys (filter_of says d.filter) (filter_of says new)) d.keys ≡ moved_to keys_of says rows new (live_dimension d)
+moved-held keys_of says rows d new holds =
+    ap (sum_by (moved_keys (filter_of says d.filter) (filter_of says new))) holds ∙ sum-map (moved_keys (filter_of says d.filter) (filter_of says new)) (keys_of d.accessor) rows
 
 -- the keys of each row ascend
 pub rows-ascend : {A : Type 0} (keys_of : A → List Cell → List Key) (fits_to : A → List Column → Bool) (kind_of : A → KeyKind) (gives_many : A → Bool) → ((accessor : A) (columns : List Column) (row : List Cell) → fits_to accessor columns ≡ true → IsRowOf columns row → AreKeysOf (kind_of accessor) (gives_many accessor) (keys_of accessor row)) → (accessor : A) (columns : List Column) (rows : List (List Cell)) → fits_to accessor columns ≡ true → AllByRecursion (IsRowOf columns) rows → AllByRecursion (λ row. IsStrictlySortedBy key_cmp (keys_of accessor row)) rows
@@ -70,32 +73,32 @@ rows-ascend keys_of fits_to kind_of gives_many lawful accessor columns [] fit of
 rows-ascend keys_of fits_to kind_of gives_many lawful accessor columns (row ∷ rows) fit of = ((lawful accessor columns row fit of.0).ascending, rows-ascend keys_of fits_to kind_of gives_many lawful accessor columns rows fit of.1)
 
 -- the keys of more rows count beside those that were there
-pub grown-count : {A : Type 0} (keys_of : A → List Cell → List Key) (rows : List (List Cell)) (held : List (Dimension A)) → sum_by held_count (map (with_keys_of keys_of rows) held) ≡ sum_by held_count held + more_count keys_of rows held
+pub grown-count : {A P : Type 0} (keys_of : A → List Cell → List Key) (rows : List (List Cell)) (held : List (Dimension A P)) → sum_by held_count (map (with_keys_of keys_of rows) held) ≡ sum_by held_count held + more_count keys_of rows held
 grown-count keys_of rows [] = refl
-grown-count {A} keys_of rows (one ∷ held) =
+grown-count {A} {P} keys_of rows (one ∷ held) =
     omega (
       arith,
       sum_by-cons held_count (with_keys_of keys_of rows one) (map (with_keys_of keys_of rows) held),
       sum_by-cons held_count one held,
-      sum_by-cons (λ (d : Dimension A). entries_by keys_of rows d.accessor) one held,
+      sum_by-cons (λ (d : Dimension A P). entries_by keys_of rows d.accessor) one held,
       sum_by-append length one.keys (map (keys_of one.accessor) rows),
       sum-map length (keys_of one.accessor) rows,
       grown-count keys_of rows held,
     )
 
 -- the keys that are held are the entries of the state
-pub held-entries : {A : Type 0} (keys_of : A → List Cell → List Key) (rows : List (List Cell)) (held : List (Dimension A)) → AllByRecursion (HoldsKeysOf keys_of rows) held → sum_by held_count held ≡ sum_by (λ live. entries_by keys_of rows live.accessor) (live_dimensions held)
+pub held-entries : {A P : Type 0} (keys_of : A → List Cell → List Key) (rows : List (List Cell)) (held : List (Dimension A P)) → AllByRecursion (HoldsKeysOf keys_of rows) held → sum_by held_count held ≡ sum_by (λ live. entries_by keys_of rows live.accessor) (live_dimensions held)
 held-entries keys_of rows [] hold = refl
-held-entries {A} keys_of rows (one ∷ held) hold =
-    omega (arith, sum_by-cons held_count one held, sum_by-cons (λ (live : LiveDimension A). entries_by keys_of rows live.accessor) (live_dimension one) (live_dimensions held), ap (sum_by length) hold.0, sum-map length (keys_of one.accessor) rows, held-entries keys_of rows held hold.1)
+held-entries {A} {P} keys_of rows (one ∷ held) hold =
+    omega (arith, sum_by-cons held_count one held, sum_by-cons (λ (live : LiveDimension A P). entries_by keys_of rows live.accessor) (live_dimension one) (live_dimensions held), ap (sum_by length) hold.0, sum-map length (keys_of one.accessor) rows, held-entries keys_of rows held hold.1)
 
-pub more-entries : {A : Type 0} (keys_of : A → List Cell → List Key) (rows : List (List Cell)) (held : List (Dimension A)) → more_count keys_of rows held ≡ sum_by (λ live. entries_by keys_of rows live.accessor) (live_dimensions held)
+pub more-entries : {A P : Type 0} (keys_of : A → List Cell → List Key) (rows : List (List Cell)) (held : List (Dimension A P)) → more_count keys_of rows held ≡ sum_by (λ live. entries_by keys_of rows live.accessor) (live_dimensions held)
 more-entries keys_of rows [] = refl
-more-entries {A} keys_of rows (one ∷ held) =
-    omega (arith, sum_by-cons (λ (d : Dimension A). entries_by keys_of rows d.accessor) one held, sum_by-cons (λ (live : LiveDimension A). entries_by keys_of rows live.accessor) (live_dimension one) (live_dimensions held), more-entries keys_of rows held)
+more-entries {A} {P} keys_of rows (one ∷ held) =
+    omega (arith, sum_by-cons (λ (d : Dimension A P). entries_by keys_of rows d.accessor) one held, sum_by-cons (λ (live : LiveDimension A P). entries_by keys_of rows live.accessor) (live_dimension one) (live_dimensions held), more-entries keys_of rows held)
 
 -- the keys of all rows are held after more came
-pub holds-more : {A : Type 0} (keys_of : A → List Cell → List Key) (rows more : List (List Cell)) (held : List (Dimension A)) → AllByRecursion (HoldsKeysOf keys_of rows) held → AllByRecursion (HoldsKeysOf keys_of (rows ++ more)) (map (with_keys_of keys_of more) held)
+pub holds-more : {A P : Type 0} (keys_of : A → List Cell → List Key) (rows more : List (List Cell)) (held : List (Dimension A P)) → AllByRecursion (HoldsKeysOf keys_of rows) held → AllByRecursion (HoldsKeysOf keys_of (rows ++ more)) (map (with_keys_of keys_of more) held)
 holds-more keys_of rows more [] hold = tt
 holds-more keys_of rows more (one ∷ held) hold =
     (ap (λ keys. keys ++ map (keys_of one.accessor) more) hold.0 ∙ sym (map-append (keys_of one.accessor) rows more), holds-more keys_of rows more held hold.1)

@@ -9,11 +9,11 @@ use Rattle.xf_engine.proofs.Swept.{swept, swept_at, swept_set_back}
 use Rattle.xf_engine.specs.declared.dimension.Dimension.{Dimension}
 
 -- where the first keys are as they were, they are what is kept
-pub kept-one : {A : Type 0} (count : ℕ) (old : Dimension A) (keys : List (List Key)) → length old.keys ≡ count → take (length old.keys) keys ≡ old.keys → kept_keys count (record old { keys = keys }) ≡ old
+pub kept-one : {A P : Type 0} (count : ℕ) (old : Dimension A P) (keys : List (List Key)) → length old.keys ≡ count → take (length old.keys) keys ≡ old.keys → kept_keys count (record old { keys = keys }) ≡ old
 kept-one count old keys e same = ap (λ kept. record old { keys = kept }) (ap (λ n. take n keys) (let back : count ≡ length old.keys = omega (arith, e) in back) ∙ same)
 
 -- so the keys of more rows are taken back, and where none came all is as it was
-pub kept-takes_back : {A : Type 0} (keys_of : A → List Cell → List Key) (rows : List (List Cell)) (count : ℕ) (held : List (Dimension A)) → HoldEach count held → AllByRecursion (λ dimension. (kept_keys count (with_keys_of keys_of rows dimension) ≡ dimension) × (kept_keys count dimension ≡ dimension)) held
+pub kept-takes_back : {A P : Type 0} (keys_of : A → List Cell → List Key) (rows : List (List Cell)) (count : ℕ) (held : List (Dimension A P)) → HoldEach count held → AllByRecursion (λ dimension. (kept_keys count (with_keys_of keys_of rows dimension) ≡ dimension) × (kept_keys count dimension ≡ dimension)) held
 kept-takes_back keys_of rows count [] each = tt
 kept-takes_back keys_of rows count (dimension ∷ held) each = (
   (
@@ -24,13 +24,13 @@ kept-takes_back keys_of rows count (dimension ∷ held) each = (
 )
 
 -- a dimension among those that hold so many rows' keys
-held_length : {A : Type 0} (count : ℕ) (held : List (Dimension A)) (i : ℕ) (d : Dimension A) → HoldEach count held → i < length held → length (get_or held i d).keys ≡ count
+pub held_length : {A P : Type 0} (count : ℕ) (held : List (Dimension A P)) (i : ℕ) (d : Dimension A P) → HoldEach count held → i < length held → length (get_or held i d).keys ≡ count
 held_length count [] i d each e = absurd (omega (arith, e))
 held_length count (dimension ∷ held) zero d each e = each.0
 held_length count (dimension ∷ held) (suc i) d each e = held_length count held i d each.1 (omega (arith, e))
 
 -- also where only some came in one of the dimensions
-pub kept-partial : {A : Type 0} (keys_of : A → List Cell → List Key) (rows : List (List Cell)) (count : ℕ) (held done : List (Dimension A)) (i : ℕ) (d : Dimension A) (keys : List (List Key)) → HoldEach count held → done ≡ swept (with_keys_of keys_of rows) i held → i < length held → take (length (get_or done i d).keys) keys ≡ (get_or done i d).keys → map (kept_keys count) (set done i (record (get_or done i d) { keys = keys })) ≡ held
+pub kept-partial : {A P : Type 0} (keys_of : A → List Cell → List Key) (rows : List (List Cell)) (count : ℕ) (held done : List (Dimension A P)) (i : ℕ) (d : Dimension A P) (keys : List (List Key)) → HoldEach count held → done ≡ swept (with_keys_of keys_of rows) i held → i < length held → take (length (get_or done i d).keys) keys ≡ (get_or done i d).keys → map (kept_keys count) (set done i (record (get_or done i d) { keys = keys })) ≡ held
 kept-partial keys_of rows count held done i d keys each same e first =
     let at : get_or done i d ≡ get_or held i d = ap (λ ds. get_or ds i d) same ∙ swept_at (with_keys_of keys_of rows) i held d in
     let one : kept_keys count (record (get_or done i d) { keys = keys }) ≡ get_or done i d = kept-one count (get_or done i d) keys (ap (λ x. length x.keys) at ∙ held_length count held i d each e) first in

@@ -1,6 +1,7 @@
 pub mod Added
 pub mod Answered
 pub mod ById
+pub mod Cleared
 pub mod CutAt
 pub mod DroppedGroups
 pub mod EachOnce
@@ -10,11 +11,13 @@ pub mod HeldCounts
 pub mod HeldStates
 pub mod Kept
 pub mod ListedPairs
+pub mod ListedPlaces
 pub mod MovedKeys
 pub mod Named
 pub mod Passes
 pub mod PassingRows
 pub mod Places
+pub mod Removed
 pub mod RoundedKeys
 pub mod RowPlaces
 pub mod Runs

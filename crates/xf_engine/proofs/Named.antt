@@ -22,7 +22,7 @@ position_map p f xs =
     ap (λ at. cond (nat_lt at (length (map f xs))) (Some at) None) (position_or_len_map p f xs)
     ∙ ap (λ n. cond (nat_lt (position_or_len (λ x. p (f x)) xs) n) (Some (position_or_len (λ x. p (f x)) xs)) None) (length-map xs f)
 
-pub position_live : {A : Type 0} (id : ℕ) (held : List (Dimension A)) → position (has_id id) (live_dimensions held) ≡ position (λ dimension. dimension.id.0 == id) held
+pub position_live : {A P : Type 0} (id : ℕ) (held : List (Dimension A P)) → position (has_id id) (live_dimensions held) ≡ position (λ dimension. dimension.id.0 == id) held
 position_live id held = position_map (has_id id) live_dimension held
 
 pub position_live_group : {G : Type 0} (id : ℕ) (held : List (Group G)) → position (group_has_id id) (live_groups held) ≡ position (λ group. group.id.0 == id) held
@@ -66,7 +66,7 @@ find-placed-group id held place d told =
     let within : place < length held = omega (arith, (position-Some (group_has_id id) (live_groups held) place (live_group d) told).0, length-map held live_group) in
     find-placed (group_has_id id) (live_groups held) place (live_group d) told ∙ ap Some (get_or-map live_group held place d (live_group d) within)
 
-pub find-placed-dimension : {A : Type 0} (id : ℕ) (held : List (Dimension A)) (place : ℕ) (d : Dimension A) → position (has_id id) (live_dimensions held) ≡ Some place → find (has_id id) (live_dimensions held) ≡ Some (live_dimension (get_or held place d))
+pub find-placed-dimension : {A P : Type 0} (id : ℕ) (held : List (Dimension A P)) (place : ℕ) (d : Dimension A P) → position (has_id id) (live_dimensions held) ≡ Some place → find (has_id id) (live_dimensions held) ≡ Some (live_dimension (get_or held place d))
 find-placed-dimension id held place d told =
     let within : place < length held = omega (arith, (position-Some (has_id id) (live_dimensions held) place (live_dimension d) told).0, length-map held live_dimension) in
     find-placed (has_id id) (live_dimensions held) place (live_dimension d) told ∙ ap Some (get_or-map live_dimension held place d (live_dimension d) within)

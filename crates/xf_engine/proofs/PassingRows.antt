@@ -21,10 +21,10 @@ kept_next p (y ∷ xs) zero x e = let same : y ≡ x = cc in omega (arith, kept_
 kept_next p (y ∷ xs) (suc i) x e = omega (arith, kept_first p y (take (suc i) xs), kept_first p y (take i xs), kept_next p xs i x e)
 
 -- how many rows pass, with the row of one place more
-pub passing_more : {A : Type 0} (keys_of : A → List Cell → List Key) (held : List (Dimension A)) (rows : List (List Cell)) (place : ℕ) → AllByRecursion (HoldsKeysOf keys_of rows) held → place < length rows → passing_in keys_of (live_dimensions held) (take (place + 1) rows) ≡ passing_in keys_of (live_dimensions held) (take place rows) + cond (passes_each_at held place) 1 0
-passing_more keys_of held rows place holds e =
+pub passing_more : {A P : Type 0} (keys_of : A → List Cell → List Key) (says : P → Key → Bool) (held : List (Dimension A P)) (rows : List (List Cell)) (place : ℕ) → AllByRecursion (HoldsKeysOf keys_of rows) held → place < length rows → passing_in keys_of says (live_dimensions held) (take (place + 1) rows) ≡ passing_in keys_of says (live_dimensions held) (take place rows) + cond (passes_each_at says held place) 1 0
+passing_more keys_of says held rows place holds e =
     let row : List Cell = get_or rows place [] in
     let there : slice_get rows place ≡ Some row = slice_get-get_or rows place [] e in
     let next : place + 1 ≡ suc place = omega arith in
-    let passing : List Cell → Bool = passes_each (dimensions_of keys_of (live_dimensions held)) in
-    omega (arith, ap (λ n. length (filter passing (take n rows))) next, kept_next passing rows place row there, ap {B = ℕ} (λ b. cond b 1 0) (passes_each_at-row keys_of rows held place row holds there))
+    let passing : List Cell → Bool = passes_each (dimensions_of keys_of says (live_dimensions held)) in
+    omega (arith, ap (λ n. length (filter passing (take n rows))) next, kept_next passing rows place row there, ap {B = ℕ} (λ b. cond b 1 0) (passes_each_at-row keys_of says rows held place row holds there))

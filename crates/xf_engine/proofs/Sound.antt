@@ -1,7 +1,7 @@
 -- A state stays sound under each change.
-use Rattle.std.proofs.Common.{◌≡◌, ℕ, zero, suc, ◌+◌, ◌<◌, ◌≤◌, ◌==◌, Bool, true, false, not, ◌||◌, cond, List, [], ◌∷◌, ◌++◌, Option, None, length, map, get_or, set, refl, sym, ap, subst, ◌∙◌, arith, length-append}
+use Rattle.std.proofs.Common.{◌≡◌, ℕ, zero, suc, ◌+◌, ◌<◌, ◌≤◌, ◌==◌, Bool, true, false, not, ◌||◌, cond, List, [], ◌∷◌, ◌++◌, None, length, map, get_or, set, refl, sym, ap, subst, ◌∙◌, arith, length-append}
 use Rattle.std.proofs.lemmas.Bool.Decides.{nat_tests}
-use Rattle.std.proofs.lemmas.List.{length-set, map-append}
+use Rattle.std.proofs.lemmas.List.{length-map, length-set, map-append}
 use Rattle.std.proofs.lemmas.List.Filters.{length-filter_both, sum_by-filter_both}
 use Rattle.std.proofs.lemmas.List.Folds.{list_any-append}
 use Rattle.std.proofs.lemmas.List.Sums.{sum_by-append, sum_by-cons}
@@ -11,9 +11,14 @@ use Rattle.xf_base.specs.declared.cell.Cell.{Cell}
 use Rattle.xf_base.specs.declared.column.Column.{Column}
 use Rattle.xf_base.specs.declared.key.Key.{Key}
 use Rattle.xf_base.specs.declared.kind.KeyKind.{KeyKind}
-use Rattle.xf_engine.specs.Changes.{with_dimension, with_group, with_rows, without_dimension, without_group}
-use Rattle.xf_engine.specs.State.{AreDistinct, AreEndsOf, IsState, LiveDimension, LiveGroup, State, dimension_ids, entries_by, entry_count, group_ids, is_taken}
+use Rattle.xf_engine.specs.Changes.{unfiltered, with_dimension, with_group, with_rows, without_dimension, without_filters, without_group}
+use Rattle.xf_engine.specs.State.{AreDistinct, IsState, LiveDimension, LiveGroup, State, dimension_ids, entries_by, entry_count, group_ids, is_taken}
+use Rattle.xf_engine.specs.declared.events.Events.{Events}
 use Rattle.xf_engine.proofs.ById.{all-filter, all-push, all-set, distinct-filter, distinct-push}
+use Rattle.xf_filter.specs.Filter.{filter_keys, first_other}
+use Rattle.xf_filter.specs.declared.filter.Filter.{Filter}
+use Rattle.xf_filter.specs.declared.filter.Filter.TheVariants.{All}
+use Rattle.xf_engine.proofs.HeldCounts.{sum-map}
 use Rattle.xf_table.proofs.Refusals.{all-append}
 
 -- no more are left than there are
@@ -50,14 +55,14 @@ taken-others {X} of gone id (x ∷ xs) taken other = go (of x == gone) (of x == 
     go false false e f t later = ap (λ b. b || is_taken (map of rest) id) f ∙ later t
 
 -- with a group more
-pub sound-with_group : {A G : Type 0} (keys_of : A → List Cell → List Key) (fits_to : A → List Column → Bool) (kind_of : A → KeyKind) (state : State A G) (id dimension : ℕ) (rounding : G) → IsState keys_of fits_to kind_of state → is_taken (group_ids state.groups) id ≡ false → is_taken (dimension_ids state.dimensions) dimension ≡ true → length state.groups < state.limits.groups → IsState keys_of fits_to kind_of (with_group state id dimension rounding)
-sound-with_group {A} {G} keys_of fits_to kind_of state id dimension rounding is free taken few =
+pub sound-with_group : {A G P : Type 0} (keys_of : A → List Cell → List Key) (fits_to : A → List Column → Bool) (kind_of : A → KeyKind) (keys_in : P → List Key) (state : State A G P) (id dimension : ℕ) (rounding : G) → IsState keys_of fits_to kind_of keys_in state → is_taken (group_ids state.groups) id ≡ false → is_taken (dimension_ids state.dimensions) dimension ≡ true → length state.groups < state.limits.groups → IsState keys_of fits_to kind_of keys_in (with_group state id dimension rounding)
+sound-with_group {A} {G} {P} keys_of fits_to kind_of keys_in state id dimension rounding is free taken few =
     let group : LiveGroup G = record { id = id; dimension = dimension; rounding = rounding } in
     record {
       limits = is.limits;
       of_schema = is.of_schema;
       fit = is.fit;
-      ends = is.ends;
+      filters = is.filters;
       distinct = is.distinct;
       distinct_groups = subst AreDistinct (sym (map-append (λ (g : LiveGroup G). g.id) state.groups (group ∷ []))) (distinct-push (group_ids state.groups) id is.distinct_groups free);
       live = all-push (λ (g : LiveGroup G). is_taken (dimension_ids state.dimensions) g.dimension ≡ true) state.groups group is.live taken;
@@ -68,14 +73,14 @@ sound-with_group {A} {G} keys_of fits_to kind_of state id dimension rounding is 
     }
 
 -- without a group
-pub sound-without_group : {A G : Type 0} (keys_of : A → List Cell → List Key) (fits_to : A → List Column → Bool) (kind_of : A → KeyKind) (state : State A G) (id : ℕ) → IsState keys_of fits_to kind_of state → IsState keys_of fits_to kind_of (without_group state id)
-sound-without_group {A} {G} keys_of fits_to kind_of state id is =
+pub sound-without_group : {A G P : Type 0} (keys_of : A → List Cell → List Key) (fits_to : A → List Column → Bool) (kind_of : A → KeyKind) (keys_in : P → List Key) (state : State A G P) (id : ℕ) → IsState keys_of fits_to kind_of keys_in state → IsState keys_of fits_to kind_of keys_in (without_group state id)
+sound-without_group {A} {G} {P} keys_of fits_to kind_of keys_in state id is =
     let stays : LiveGroup G → Bool = λ g. not (g.id == id) in
     record {
       limits = is.limits;
       of_schema = is.of_schema;
       fit = is.fit;
-      ends = is.ends;
+      filters = is.filters;
       distinct = is.distinct;
       distinct_groups = distinct-filter (λ (g : LiveGroup G). g.id) stays state.groups is.distinct_groups;
       live = all-filter (λ (g : LiveGroup G). is_taken (dimension_ids state.dimensions) g.dimension ≡ true) stays state.groups is.live;
@@ -86,29 +91,29 @@ sound-without_group {A} {G} keys_of fits_to kind_of state id is =
     }
 
 -- with a dimension more
-pub sound-with_dimension : {A G : Type 0} (keys_of : A → List Cell → List Key) (fits_to : A → List Column → Bool) (kind_of : A → KeyKind) (state : State A G) (id : ℕ) (accessor : A) → IsState keys_of fits_to kind_of state → is_taken (dimension_ids state.dimensions) id ≡ false → fits_to accessor state.columns ≡ true → length state.dimensions < state.limits.dimensions → entry_count keys_of state state.rows + entries_by keys_of state.rows accessor ≤ state.limits.entries → IsState keys_of fits_to kind_of (with_dimension state id accessor)
-sound-with_dimension {A} {G} keys_of fits_to kind_of state id accessor is free fit few room =
-    let live : LiveDimension A = record { id = id; accessor = accessor; range = None } in
-    let ids : dimension_ids (state.dimensions ++ live ∷ []) ≡ dimension_ids state.dimensions ++ id ∷ [] = map-append (λ (d : LiveDimension A). d.id) state.dimensions (live ∷ []) in
+pub sound-with_dimension : {A G P : Type 0} (keys_of : A → List Cell → List Key) (fits_to : A → List Column → Bool) (kind_of : A → KeyKind) (keys_in : P → List Key) (state : State A G P) (id : ℕ) (accessor : A) → IsState keys_of fits_to kind_of keys_in state → is_taken (dimension_ids state.dimensions) id ≡ false → fits_to accessor state.columns ≡ true → length state.dimensions < state.limits.dimensions → entry_count keys_of state state.rows + entries_by keys_of state.rows accessor ≤ state.limits.entries → IsState keys_of fits_to kind_of keys_in (with_dimension state id accessor)
+sound-with_dimension {A} {G} {P} keys_of fits_to kind_of keys_in state id accessor is free fit few room =
+    let live : LiveDimension A P = record { id = id; accessor = accessor; filter = All } in
+    let ids : dimension_ids (state.dimensions ++ live ∷ []) ≡ dimension_ids state.dimensions ++ id ∷ [] = map-append (λ (d : LiveDimension A P). d.id) state.dimensions (live ∷ []) in
     record {
       limits = is.limits;
       of_schema = is.of_schema;
-      fit = all-push (λ (d : LiveDimension A). fits_to d.accessor state.columns ≡ true) state.dimensions live is.fit fit;
-      ends = all-push (λ (d : LiveDimension A). AreEndsOf (kind_of d.accessor) d.range) state.dimensions live is.ends tt;
+      fit = all-push (λ (d : LiveDimension A P). fits_to d.accessor state.columns ≡ true) state.dimensions live is.fit fit;
+      filters = all-push (λ (d : LiveDimension A P). first_other (kind_of d.accessor) (filter_keys keys_in d.filter) ≡ None) state.dimensions live is.filters refl;
       distinct = subst AreDistinct (sym ids) (distinct-push (dimension_ids state.dimensions) id is.distinct free);
       distinct_groups = is.distinct_groups;
       live = weaken (λ (g : LiveGroup G). is_taken (dimension_ids state.dimensions) g.dimension ≡ true) (λ (g : LiveGroup G). is_taken (dimension_ids (state.dimensions ++ live ∷ [])) g.dimension ≡ true) state.groups
           (λ g taken. ap (λ all. is_taken all g.dimension) ids ∙ still-taken (dimension_ids state.dimensions) (id ∷ []) g.dimension taken) is.live;
       few_rows = is.few_rows;
-      few_entries = omega (arith, sum_by-append (λ (d : LiveDimension A). entries_by keys_of state.rows d.accessor) state.dimensions (live ∷ []), sum_by-cons (λ (d : LiveDimension A). entries_by keys_of state.rows d.accessor) live [], room);
+      few_entries = omega (arith, sum_by-append (λ (d : LiveDimension A P). entries_by keys_of state.rows d.accessor) state.dimensions (live ∷ []), sum_by-cons (λ (d : LiveDimension A P). entries_by keys_of state.rows d.accessor) live [], room);
       few_dimensions = omega (arith, one-more state.dimensions live, few);
       few_groups = is.few_groups;
     }
 
 -- the groups of other dimensions are still of live ones
-groups-stay : {A G : Type 0} (gone : ℕ) (dimensions : List (LiveDimension A)) (groups : List (LiveGroup G)) → AllByRecursion (λ group. is_taken (dimension_ids dimensions) group.dimension ≡ true) groups → AllByRecursion (λ group. is_taken (dimension_ids (filter (λ d. not (d.id == gone)) dimensions)) group.dimension ≡ true) (filter (λ group. not (group.dimension == gone)) groups)
+groups-stay : {A G P : Type 0} (gone : ℕ) (dimensions : List (LiveDimension A P)) (groups : List (LiveGroup G)) → AllByRecursion (λ group. is_taken (dimension_ids dimensions) group.dimension ≡ true) groups → AllByRecursion (λ group. is_taken (dimension_ids (filter (λ d. not (d.id == gone)) dimensions)) group.dimension ≡ true) (filter (λ group. not (group.dimension == gone)) groups)
 groups-stay gone dimensions [] live = tt
-groups-stay {A} {G} gone dimensions (group ∷ groups) live = go (group.dimension == gone) refl (groups-stay gone dimensions groups live.1)
+groups-stay {A} {G} {P} gone dimensions (group ∷ groups) live = go (group.dimension == gone) refl (groups-stay gone dimensions groups live.1)
   where
     kept : List (LiveGroup G)
     kept = filter (λ other. not (other.dimension == gone)) groups
@@ -118,23 +123,23 @@ groups-stay {A} {G} gone dimensions (group ∷ groups) live = go (group.dimensio
 
     go : (b : Bool) → (group.dimension == gone) ≡ b → AllByRecursion left kept → AllByRecursion left (cond (not b) (group ∷ kept) kept)
     go true e rest = rest
-    go false e rest = (taken-others (λ (d : LiveDimension A). d.id) gone group.dimension dimensions live.0 e, rest)
+    go false e rest = (taken-others (λ (d : LiveDimension A P). d.id) gone group.dimension dimensions live.0 e, rest)
 
 -- without a dimension and its groups
-pub sound-without_dimension : {A G : Type 0} (keys_of : A → List Cell → List Key) (fits_to : A → List Column → Bool) (kind_of : A → KeyKind) (state : State A G) (id : ℕ) → IsState keys_of fits_to kind_of state → IsState keys_of fits_to kind_of (without_dimension state id)
-sound-without_dimension {A} {G} keys_of fits_to kind_of state id is =
-    let stays : LiveDimension A → Bool = λ d. not (d.id == id) in
+pub sound-without_dimension : {A G P : Type 0} (keys_of : A → List Cell → List Key) (fits_to : A → List Column → Bool) (kind_of : A → KeyKind) (keys_in : P → List Key) (state : State A G P) (id : ℕ) → IsState keys_of fits_to kind_of keys_in state → IsState keys_of fits_to kind_of keys_in (without_dimension state id)
+sound-without_dimension {A} {G} {P} keys_of fits_to kind_of keys_in state id is =
+    let stays : LiveDimension A P → Bool = λ d. not (d.id == id) in
     let elsewhere : LiveGroup G → Bool = λ g. not (g.dimension == id) in
     record {
       limits = is.limits;
       of_schema = is.of_schema;
-      fit = all-filter (λ (d : LiveDimension A). fits_to d.accessor state.columns ≡ true) stays state.dimensions is.fit;
-      ends = all-filter (λ (d : LiveDimension A). AreEndsOf (kind_of d.accessor) d.range) stays state.dimensions is.ends;
-      distinct = distinct-filter (λ (d : LiveDimension A). d.id) stays state.dimensions is.distinct;
+      fit = all-filter (λ (d : LiveDimension A P). fits_to d.accessor state.columns ≡ true) stays state.dimensions is.fit;
+      filters = all-filter (λ (d : LiveDimension A P). first_other (kind_of d.accessor) (filter_keys keys_in d.filter) ≡ None) stays state.dimensions is.filters;
+      distinct = distinct-filter (λ (d : LiveDimension A P). d.id) stays state.dimensions is.distinct;
       distinct_groups = distinct-filter (λ (g : LiveGroup G). g.id) elsewhere state.groups is.distinct_groups;
       live = groups-stay id state.dimensions state.groups is.live;
       few_rows = is.few_rows;
-      few_entries = omega (arith, less (λ (d : LiveDimension A). entries_by keys_of state.rows d.accessor) stays state.dimensions, is.few_entries);
+      few_entries = omega (arith, less (λ (d : LiveDimension A P). entries_by keys_of state.rows d.accessor) stays state.dimensions, is.few_entries);
       few_dimensions = omega (arith, fewer stays state.dimensions, is.few_dimensions);
       few_groups = omega (arith, fewer elsewhere state.groups, is.few_groups);
     }
@@ -156,51 +161,79 @@ all-get P [] i d e all = absurd (omega (arith, e))
 all-get P (x ∷ xs) zero d e all = all.0
 all-get P (x ∷ xs) (suc i) d e all = all-get P xs i d (omega (arith, e)) all.1
 
--- with another range on the dimension at a place
-pub sound-ranged : {A G : Type 0} (keys_of : A → List Cell → List Key) (fits_to : A → List Column → Bool) (kind_of : A → KeyKind) (state : State A G) (place : ℕ) (d : LiveDimension A) (ends : Option (Key × Key)) → IsState keys_of fits_to kind_of state → place < length state.dimensions → AreEndsOf (kind_of (get_or state.dimensions place d).accessor) ends → IsState keys_of fits_to kind_of (record state { dimensions = set state.dimensions place (record (get_or state.dimensions place d) { range = ends }) })
-sound-ranged {A} {G} keys_of fits_to kind_of state place d ends is within of_kind =
-    let now : LiveDimension A = record (get_or state.dimensions place d) { range = ends } in
-    let ids : dimension_ids (set state.dimensions place now) ≡ dimension_ids state.dimensions = set-same (λ (x : LiveDimension A). x.id) state.dimensions place now d refl in
+-- with another filter on the dimension at a place
+pub sound-refiltered : {A G P : Type 0} (keys_of : A → List Cell → List Key) (fits_to : A → List Column → Bool) (kind_of : A → KeyKind) (keys_in : P → List Key) (state : State A G P) (place : ℕ) (d : LiveDimension A P) (new : Filter P) (events : Events) → IsState keys_of fits_to kind_of keys_in state → place < length state.dimensions → first_other (kind_of (get_or state.dimensions place d).accessor) (filter_keys keys_in new) ≡ None → IsState keys_of fits_to kind_of keys_in (record state { dimensions = set state.dimensions place (record (get_or state.dimensions place d) { filter = new }); events = events })
+sound-refiltered {A} {G} {P} keys_of fits_to kind_of keys_in state place d new events is within of_kind =
+    let now : LiveDimension A P = record (get_or state.dimensions place d) { filter = new } in
+    let ids : dimension_ids (set state.dimensions place now) ≡ dimension_ids state.dimensions = set-same (λ (x : LiveDimension A P). x.id) state.dimensions place now d refl in
     record {
       limits = is.limits;
       of_schema = is.of_schema;
-      fit = all-set (λ (x : LiveDimension A). fits_to x.accessor state.columns ≡ true) state.dimensions place now is.fit (all-get (λ (x : LiveDimension A). fits_to x.accessor state.columns ≡ true) state.dimensions place d within is.fit);
-      ends = all-set (λ (x : LiveDimension A). AreEndsOf (kind_of x.accessor) x.range) state.dimensions place now is.ends of_kind;
+      fit = all-set (λ (x : LiveDimension A P). fits_to x.accessor state.columns ≡ true) state.dimensions place now is.fit (all-get (λ (x : LiveDimension A P). fits_to x.accessor state.columns ≡ true) state.dimensions place d within is.fit);
+      filters = all-set (λ (x : LiveDimension A P). first_other (kind_of x.accessor) (filter_keys keys_in x.filter) ≡ None) state.dimensions place now is.filters of_kind;
       distinct = subst AreDistinct (sym ids) is.distinct;
       distinct_groups = is.distinct_groups;
       live = weaken (λ (g : LiveGroup G). is_taken (dimension_ids state.dimensions) g.dimension ≡ true) (λ (g : LiveGroup G). is_taken (dimension_ids (set state.dimensions place now)) g.dimension ≡ true) state.groups (λ g taken. ap (λ all. is_taken all g.dimension) ids ∙ taken) is.live;
       few_rows = is.few_rows;
-      few_entries = omega (arith, sum-set (λ (x : LiveDimension A). entries_by keys_of state.rows x.accessor) state.dimensions place now d within refl, is.few_entries);
+      few_entries = omega (arith, sum-set (λ (x : LiveDimension A P). entries_by keys_of state.rows x.accessor) state.dimensions place now d within refl, is.few_entries);
       few_dimensions = omega (arith, length-set state.dimensions place now, is.few_dimensions);
       few_groups = is.few_groups;
     }
 
 -- the entries of joined rows
-pub entries-append : {A : Type 0} (keys_of : A → List Cell → List Key) (dimensions : List (LiveDimension A)) (rows more : List (List Cell)) → sum_by (λ live. entries_by keys_of (rows ++ more) live.accessor) dimensions ≡ sum_by (λ live. entries_by keys_of rows live.accessor) dimensions + sum_by (λ live. entries_by keys_of more live.accessor) dimensions
+pub entries-append : {A P : Type 0} (keys_of : A → List Cell → List Key) (dimensions : List (LiveDimension A P)) (rows more : List (List Cell)) → sum_by (λ live. entries_by keys_of (rows ++ more) live.accessor) dimensions ≡ sum_by (λ live. entries_by keys_of rows live.accessor) dimensions + sum_by (λ live. entries_by keys_of more live.accessor) dimensions
 entries-append keys_of [] rows more = refl
-entries-append {A} keys_of (live ∷ dimensions) rows more =
+entries-append {A} {P} keys_of (live ∷ dimensions) rows more =
     omega (
       arith,
-      sum_by-cons (λ (d : LiveDimension A). entries_by keys_of (rows ++ more) d.accessor) live dimensions,
-      sum_by-cons (λ (d : LiveDimension A). entries_by keys_of rows d.accessor) live dimensions,
-      sum_by-cons (λ (d : LiveDimension A). entries_by keys_of more d.accessor) live dimensions,
+      sum_by-cons (λ (d : LiveDimension A P). entries_by keys_of (rows ++ more) d.accessor) live dimensions,
+      sum_by-cons (λ (d : LiveDimension A P). entries_by keys_of rows d.accessor) live dimensions,
+      sum_by-cons (λ (d : LiveDimension A P). entries_by keys_of more d.accessor) live dimensions,
       sum_by-append (λ row. length (keys_of live.accessor row)) rows more,
       entries-append keys_of dimensions rows more,
     )
 
 -- with rows more
-pub sound-with_rows : {A G : Type 0} (keys_of : A → List Cell → List Key) (fits_to : A → List Column → Bool) (kind_of : A → KeyKind) (state : State A G) (more : List (List Cell)) → IsState keys_of fits_to kind_of state → AllByRecursion (IsRowOf state.columns) more → length state.rows + length more ≤ state.limits.rows → entry_count keys_of state state.rows + entry_count keys_of state more ≤ state.limits.entries → IsState keys_of fits_to kind_of (with_rows state more)
-sound-with_rows {A} {G} keys_of fits_to kind_of state more is also few room =
+pub sound-with_rows : {A G P : Type 0} (keys_of : A → List Cell → List Key) (fits_to : A → List Column → Bool) (kind_of : A → KeyKind) (keys_in : P → List Key) (state : State A G P) (more : List (List Cell)) → IsState keys_of fits_to kind_of keys_in state → AllByRecursion (IsRowOf state.columns) more → length state.rows + length more ≤ state.limits.rows → entry_count keys_of state state.rows + entry_count keys_of state more ≤ state.limits.entries → IsState keys_of fits_to kind_of keys_in (with_rows state more)
+sound-with_rows {A} {G} {P} keys_of fits_to kind_of keys_in state more is also few room =
     record {
       limits = is.limits;
       of_schema = all-append (IsRowOf state.columns) state.rows more is.of_schema also;
       fit = is.fit;
-      ends = is.ends;
+      filters = is.filters;
       distinct = is.distinct;
       distinct_groups = is.distinct_groups;
       live = is.live;
       few_rows = omega (arith, length-append state.rows more, few);
       few_entries = omega (arith, entries-append keys_of state.dimensions state.rows more, room);
       few_dimensions = is.few_dimensions;
+      few_groups = is.few_groups;
+    }
+
+-- what is mapped alike is mapped the same, and what holds of the images holds of all that is mapped
+mapped-same : {X Y : Type 0} (f : X → X) (g : X → Y) (xs : List X) → ((x : X) → g (f x) ≡ g x) → map g (map f xs) ≡ map g xs
+mapped-same f g [] same = refl
+mapped-same f g (x ∷ xs) same = let first : g (f x) ≡ g x = same x in let rest : map g (map f xs) ≡ map g xs = mapped-same f g xs same in λ i. first i ∷ rest i
+
+all-map : {X Y : Type 0} (P : Y → Type 0) (f : X → Y) (xs : List X) → AllByRecursion (λ x. P (f x)) xs → AllByRecursion P (map f xs)
+all-map P f [] all = tt
+all-map P f (x ∷ xs) all = (all.0, all-map P f xs all.1)
+
+-- without filters
+pub sound-without_filters : {A G P : Type 0} (keys_of : A → List Cell → List Key) (fits_to : A → List Column → Bool) (kind_of : A → KeyKind) (keys_in : P → List Key) (state : State A G P) → IsState keys_of fits_to kind_of keys_in state → IsState keys_of fits_to kind_of keys_in (without_filters state)
+sound-without_filters {A} {G} {P} keys_of fits_to kind_of keys_in state is =
+    let ids : dimension_ids (map unfiltered state.dimensions) ≡ dimension_ids state.dimensions = mapped-same unfiltered (λ (d : LiveDimension A P). d.id) state.dimensions (λ d. refl) in
+    record {
+      limits = is.limits;
+      of_schema = is.of_schema;
+      fit = all-map (λ (d : LiveDimension A P). fits_to d.accessor state.columns ≡ true) unfiltered state.dimensions is.fit;
+      filters = all-map (λ (d : LiveDimension A P). first_other (kind_of d.accessor) (filter_keys keys_in d.filter) ≡ None) unfiltered state.dimensions
+          (weaken (λ (d : LiveDimension A P). fits_to d.accessor state.columns ≡ true) (λ (d : LiveDimension A P). first_other (kind_of d.accessor) [] ≡ None) state.dimensions (λ d fits. refl) is.fit);
+      distinct = subst AreDistinct (sym ids) is.distinct;
+      distinct_groups = is.distinct_groups;
+      live = weaken (λ (g : LiveGroup G). is_taken (dimension_ids state.dimensions) g.dimension ≡ true) (λ (g : LiveGroup G). is_taken (dimension_ids (map unfiltered state.dimensions)) g.dimension ≡ true) state.groups (λ g taken. ap (λ all. is_taken all g.dimension) ids ∙ taken) is.live;
+      few_rows = is.few_rows;
+      few_entries = omega (arith, sum-map (λ (d : LiveDimension A P). entries_by keys_of state.rows d.accessor) unfiltered state.dimensions, is.few_entries);
+      few_dimensions = omega (arith, length-map state.dimensions unfiltered, is.few_dimensions);
       few_groups = is.few_groups;
     }

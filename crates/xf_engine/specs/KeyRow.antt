@@ -39,9 +39,9 @@ abbrev pub key_rows : {Row : Type 0} → (Row → Bool) → (Row → List Key) �
 key_rows passes keys rows = flat_map (λ row. key_rows_of (passes row) (keys row)) rows
 
 -- the rounded keys of all rows in the dimension at a place
-abbrev pub key_rows_at : {A : Type 0} → (A → List Cell → List Key) → List (LiveDimension A) → List (List Cell) → (Key → Key) → ℕ → List KeyRow
-key_rows_at keys_of lives rows round own =
-    key_rows (passes_each (all_but (Some own) (dimensions_of keys_of lives))) (λ row. map round (keys_under keys_of (slice_get lives own) row)) rows
+abbrev pub key_rows_at : {A P : Type 0} → (A → List Cell → List Key) → (P → Key → Bool) → List (LiveDimension A P) → List (List Cell) → (Key → Key) → ℕ → List KeyRow
+key_rows_at keys_of says lives rows round own =
+    key_rows (passes_each (all_but (Some own) (dimensions_of keys_of says lives))) (λ row. map round (keys_under keys_of (slice_get lives own) row)) rows
 
 -- how many of the rows with a key count
 abbrev pub count_of : {Row Key : Type 0} → (Key → Key → Ordering) → (Row → Key) → (Row → Bool) → List Row → Key → ℕ

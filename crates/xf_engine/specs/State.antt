@@ -1,23 +1,26 @@
 -- What a crossfilter is seen as, and what its dimensions mean.
 --
--- An accessor is of any type `A`, and `keys_of` says what its keys of a row are; a rounding is of any type `G`.
-use Rattle.std.specs.Prelude.{◌≡◌, ℕ, ◌==◌, ◌≤◌, ◌<◌, Bool, true, false, List, [], ◌∷◌, length, map, sum_by, Option, Some, None, IfSome}
+-- An accessor is of any type `A`, and `keys_of` says what its keys of a row are; a rounding is of any type `G`; a
+-- predicate is of any type `P`, `says` tells of which keys it says yes, and `keys_in` which keys stand inside it.
+use Rattle.std.specs.Prelude.{◌≡◌, ℕ, ◌==◌, ◌≤◌, ◌<◌, Bool, true, false, List, [], ◌∷◌, length, map, sum_by, Option, None}
 use Rattle.std.specs.List.{AllByRecursion, find, list_any, position}
 use Rattle.xf_base.specs.Bounds.{AreLimits, Bounds}
-use Rattle.xf_base.specs.Key.{key_cmp}
-use Rattle.xf_base.specs.Kind.{kind_of_key}
 use Rattle.xf_base.specs.Schema.{IsRowOf}
 use Rattle.xf_base.specs.declared.cell.Cell.{Cell}
 use Rattle.xf_base.specs.declared.column.Column.{Column}
 use Rattle.xf_base.specs.declared.key.Key.{Key}
 use Rattle.xf_base.specs.declared.kind.KeyKind.{KeyKind}
-use Rattle.xf_model.specs.Dimension.{Dimension, Filter, all, range}
+use Rattle.xf_engine.specs.declared.events.Events.{Events}
+use Rattle.xf_engine.specs.declared.ids.DimensionId.{DimensionId}
+use Rattle.xf_filter.specs.Filter.{filter_keys, filter_of, first_other}
+use Rattle.xf_filter.specs.declared.filter.Filter.{Filter}
+use Rattle.xf_model.specs.Dimension.{Dimension}
 
--- a dimension: its id, what gives the keys of a row, and the ends of the range that is set on it
-pub record LiveDimension (A : Type 0) : Type 0 where
+-- a dimension: its id, what gives the keys of a row, and the filter that is set on it
+pub record LiveDimension (A P : Type 0) : Type 0 where
   pub id : ℕ
   pub accessor : A
-  pub range : Option (Key × Key)
+  pub filter : Filter P
 
 -- a group: its id, that of its dimension, and what rounds its keys
 pub record LiveGroup (G : Type 0) : Type 0 where
@@ -25,53 +28,58 @@ pub record LiveGroup (G : Type 0) : Type 0 where
   pub dimension : ℕ
   pub rounding : G
 
--- the columns, how much may be held, the rows in order of arrival, and the dimensions and groups in order of creation
-pub record State (A G : Type 0) : Type 0 where
+-- the columns, how much may be held, the rows in order of arrival, the dimensions and groups in order of creation, and
+-- how often rows and filters were changed
+pub record State (A G P : Type 0) : Type 0 where
   pub columns : List Column
   pub limits : Bounds
   pub rows : List (List Cell)
-  pub dimensions : List (LiveDimension A)
+  pub dimensions : List (LiveDimension A P)
   pub groups : List (LiveGroup G)
+  pub events : Events
 
--- the filter that a range sets: the keys from its low end on that are below its high end
-abbrev pub filter_of : Option (Key × Key) → Filter Key
-filter_of None = all
-filter_of (Some ends) = range key_cmp ends.0 ends.1
+-- no event yet
+abbrev pub no_events : Events
+no_events = record { added = 0; removed = 0; filtered = 0 }
 
 -- a dimension with its filter, by what its accessor gives
-abbrev pub dimension_of : {A : Type 0} → (A → List Cell → List Key) → LiveDimension A → Dimension (List Cell) Key
-dimension_of keys_of live = record { keys = keys_of live.accessor; chosen = filter_of live.range }
+abbrev pub dimension_of : {A P : Type 0} → (A → List Cell → List Key) → (P → Key → Bool) → LiveDimension A P → Dimension (List Cell) Key
+dimension_of keys_of says live = record { keys = keys_of live.accessor; chosen = filter_of says live.filter }
 
-abbrev pub dimensions_of : {A : Type 0} → (A → List Cell → List Key) → List (LiveDimension A) → List (Dimension (List Cell) Key)
-dimensions_of keys_of lives = map (dimension_of keys_of) lives
+abbrev pub dimensions_of : {A P : Type 0} → (A → List Cell → List Key) → (P → Key → Bool) → List (LiveDimension A P) → List (Dimension (List Cell) Key)
+dimensions_of keys_of says lives = map (dimension_of keys_of says) lives
 
 -- whether a dimension, or a group, has this id
-abbrev pub has_id : {A : Type 0} → ℕ → LiveDimension A → Bool
+abbrev pub has_id : {A P : Type 0} → ℕ → LiveDimension A P → Bool
 has_id id live = live.id == id
 
 abbrev pub group_has_id : {G : Type 0} → ℕ → LiveGroup G → Bool
 group_has_id id group = group.id == id
 
 -- the place of the live dimension, or group, of an id
-abbrev pub dimension_place : {A G : Type 0} → State A G → ℕ → Option ℕ
+abbrev pub dimension_place : {A G P : Type 0} → State A G P → ℕ → Option ℕ
 dimension_place state id = position (has_id id) state.dimensions
 
-abbrev pub group_place : {A G : Type 0} → State A G → ℕ → Option ℕ
+abbrev pub group_place : {A G P : Type 0} → State A G P → ℕ → Option ℕ
 group_place state id = position (group_has_id id) state.groups
 
 -- the live dimension, or group, of an id
-abbrev pub dimension_named : {A G : Type 0} → State A G → ℕ → Option (LiveDimension A)
+abbrev pub dimension_named : {A G P : Type 0} → State A G P → ℕ → Option (LiveDimension A P)
 dimension_named state id = find (has_id id) state.dimensions
 
-abbrev pub group_named : {A G : Type 0} → State A G → ℕ → Option (LiveGroup G)
+abbrev pub group_named : {A G P : Type 0} → State A G P → ℕ → Option (LiveGroup G)
 group_named state id = find (group_has_id id) state.groups
 
 -- whether an id is among those that are taken
 abbrev pub is_taken : List ℕ → ℕ → Bool
 is_taken ids id = list_any (λ taken. taken == id) ids
 
-abbrev pub dimension_ids : {A : Type 0} → List (LiveDimension A) → List ℕ
+abbrev pub dimension_ids : {A P : Type 0} → List (LiveDimension A P) → List ℕ
 dimension_ids lives = map (λ live. live.id) lives
+
+-- the numbers of ids
+abbrev pub id_numbers : List DimensionId → List ℕ
+id_numbers ids = map (λ id. id.0) ids
 
 abbrev pub group_ids : {G : Type 0} → List (LiveGroup G) → List ℕ
 group_ids groups = map (λ group. group.id) groups
@@ -91,24 +99,16 @@ abbrev pub entries_by : {A : Type 0} → (A → List Cell → List Key) → List
 entries_by keys_of rows accessor = sum_by (λ row. length (keys_of accessor row)) rows
 
 -- how many entries rows have in all dimensions
-abbrev pub entry_count : {A G : Type 0} → (A → List Cell → List Key) → State A G → List (List Cell) → ℕ
+abbrev pub entry_count : {A G P : Type 0} → (A → List Cell → List Key) → State A G P → List (List Cell) → ℕ
 entry_count keys_of state rows = sum_by (λ live. entries_by keys_of rows live.accessor) state.dimensions
 
--- both ends of a range are of this kind
-abbrev pub AreEndsOf : KeyKind → Option (Key × Key) → Type 0
-AreEndsOf kind ends = IfSome ends (λ range. (kind_of_key range.0 ≡ kind) × (kind_of_key range.1 ≡ kind))
-
--- a range fits the live dimension of an id, where there is one
-abbrev pub AreEndsFor : {A G : Type 0} → (A → KeyKind) → State A G → ℕ → Option (Key × Key) → Type 0
-AreEndsFor kind_of state id ends = IfSome (dimension_named state id) (λ live. AreEndsOf (kind_of live.accessor) ends)
-
--- what is true of every crossfilter: the rows are of the schema, each accessor fits it, each range is of its accessor's
--- kind, ids differ, each group's dimension is live, and all is within the limits
-pub record IsState {A G : Type 0} (keys_of : A → List Cell → List Key) (fits_to : A → List Column → Bool) (kind_of : A → KeyKind) (state : State A G) : Type 0 where
+-- what is true of every crossfilter: the rows are of the schema, each accessor fits it, each filter's keys are of its
+-- accessor's kind, ids differ, each group's dimension is live, and all is within the limits
+pub record IsState {A G P : Type 0} (keys_of : A → List Cell → List Key) (fits_to : A → List Column → Bool) (kind_of : A → KeyKind) (keys_in : P → List Key) (state : State A G P) : Type 0 where
   pub limits : AreLimits state.limits
   pub of_schema : AllByRecursion (IsRowOf state.columns) state.rows
   pub fit : AllByRecursion (λ live. fits_to live.accessor state.columns ≡ true) state.dimensions
-  pub ends : AllByRecursion (λ live. AreEndsOf (kind_of live.accessor) live.range) state.dimensions
+  pub filters : AllByRecursion (λ live. first_other (kind_of live.accessor) (filter_keys keys_in live.filter) ≡ None) state.dimensions
   pub distinct : AreDistinct (dimension_ids state.dimensions)
   pub distinct_groups : AreDistinct (group_ids state.groups)
   pub live : AllByRecursion (λ group. is_taken (dimension_ids state.dimensions) group.dimension ≡ true) state.groups

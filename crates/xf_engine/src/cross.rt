@@ -1,16 +1,19 @@
-//! The crossfilter. What is kept: the records, in the table, the keys of each record in each dimension, and the range that
-//! is set on each dimension. What is computed each time that it is asked for, from these alone: how many records pass,
-//! what a new range moves, the entries of a group, and the records with the least and the greatest keys. So nothing that
-//! is kept can be out of date.
-ghost use Rattle.std.specs.Prelude.{◌≡◌, ◌<◌, [], Some, length, slice_get, true};
+//! The crossfilter. What is kept: the records, in the table, the keys of each record in each dimension, the filter that
+//! is set on each dimension, and how often records and filters were changed. What is computed each time that it is
+//! asked for: which records pass, what a new filter moves, the entries of a group, and the records with the least and
+//! the greatest keys. So nothing that is kept can be out of date.
+ghost use Rattle.std.specs.Prelude.{◌≡◌, ◌<◌, ◌≤◌, [], Some, length, slice_get, true};
+ghost use Rattle.xf_table.specs.Table.{text_of_rows};
 
 mod dimensions;
 mod filters;
 mod groups;
 mod lists;
 mod records;
+mod removals;
 
 use crate::dimension::{Dimension, dimension_place};
+use crate::events::Events;
 use crate::group::{Group, group_place};
 use crate::ids::{DimensionId, GroupId};
 use std::alloc::Global;
@@ -18,39 +21,43 @@ use std::marker::Model;
 use std::sync::ledger::Ledger;
 use xf_access::{Accessor, Rounding};
 use xf_base::{Limits, Row, Schema, Steps};
+use xf_filter::Predicate;
 use xf_table::Table;
 
-/// The records that are present, the live dimensions with their ranges, and the live groups.
+/// The records that are present, the live dimensions with their filters, the live groups, and how often they
+/// were changed.
 #[derive(Drop)]
-pub struct Cross<A: Accessor, G: Rounding> {
+pub struct Cross<A: Accessor, G: Rounding, P: Predicate> {
     alloc: Global,
     table: Table,
-    dimensions: Vec<Dimension<A>>,
+    dimensions: Vec<Dimension<A, P>>,
     groups: Vec<Group<G>>,
+    events: Events,
 }
 
-impl<A: Accessor, G: Rounding> Model for Cross<A, G> {
+impl<A: Accessor, G: Rounding, P: Predicate> Model for Cross<A, G, P> {
     ghost use Rattle.xf_engine.specs.State.{State};
 
-    ghost Value = { State A G };
+    ghost Value = { State A G P };
 
     ghost use Rattle.xf_engine.specs.Held.{IsCross, state_of};
 
-    ghost view = { λ cross. state_of cross.table cross.dimensions.items cross.groups.items };
+    ghost view = { λ cross. state_of cross.table cross.dimensions.items cross.groups.items cross.events };
 
-    ghost invariant = { λ cross. IsCross A.keys_of A.fits_to A.kind_of cross.table cross.dimensions.items cross.groups.items };
+    ghost invariant = { λ cross. IsCross A.keys_of A.fits_to A.kind_of P.keys_in cross.table cross.dimensions.items cross.groups.items cross.events };
 }
 
-impl<A: Accessor, G: Rounding> Cross<A, G> {
-    ghost use Rattle.xf_engine.specs.State.{IsState, dimension_place, group_place};
+impl<A: Accessor, G: Rounding, P: Predicate> Cross<A, G, P> {
+    ghost use Rattle.xf_engine.specs.State.{IsState, dimension_place, group_place, no_events};
 
     /// A crossfilter without records, dimensions and groups. It takes no memory yet.
-    pub fn new(alloc: Global, schema: Schema, limits: Limits) -> Cross<A, G>
+    pub fn new(alloc: Global, schema: Schema, limits: Limits) -> Cross<A, G, P>
         ensures columns { result.columns ≡ schema }
         ensures limits { result.limits ≡ limits }
         ensures rows { result.rows ≡ [] }
         ensures dimensions { result.dimensions ≡ [] }
         ensures groups { result.groups ≡ [] }
+        ensures events { result.events ≡ no_events }
     {
         let _sound = limits.is_sound();
         Cross {
@@ -58,6 +65,11 @@ impl<A: Accessor, G: Rounding> Cross<A, G> {
             table: Table::new(alloc, schema, limits),
             dimensions: Vec::new(alloc),
             groups: Vec::new(alloc),
+            events: Events {
+                added: 0,
+                removed: 0,
+                filtered: 0,
+            },
         }
     }
 
@@ -83,6 +95,13 @@ impl<A: Accessor, G: Rounding> Cross<A, G> {
         self.table.row(place, steps)
     }
 
+    /// How often records and filters were changed.
+    pub fn events(&self) -> Events
+        ensures { result ≡ self.now.events }
+    {
+        self.events
+    }
+
     /// The place of the dimension of an id, among those that are live.
     fn place_of(&self, id: DimensionId) -> Option<usize>
         ensures { result ≡ dimension_place self.now id.0 }
@@ -100,8 +119,9 @@ impl<A: Accessor, G: Rounding> Cross<A, G> {
     /// True of every crossfilter: the clause tells a proof what each of them meets.
     pub fn is_sound(&self) -> bool
         ensures answer { result ≡ true }
-        ensures sound { IsState A.keys_of A.fits_to A.kind_of self.now }
+        ensures sound { IsState A.keys_of A.fits_to A.kind_of P.keys_in self.now }
+        ensures text { text_of_rows self.now.rows ≤ self.now.limits.text_bytes }
     {
-        self.dimensions.len() <= usize::MAX
+        self.table.text() <= u64::MAX
     }
 }

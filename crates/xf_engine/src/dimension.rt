@@ -1,61 +1,70 @@
-//! A live dimension: its accessor, the range that is set on it, and the keys of every row.
-ghost use Rattle.std.specs.Prelude.{◌≡◌, ◌+◌, ◌<◌, ◌^◌, length, position, remove};
+//! A live dimension: its accessor, the filter that is set on it, and the keys of every row.
+ghost use Rattle.std.specs.Prelude.{◌≡◌, ◌+◌, ◌<◌, ◌≤◌, ◌^◌, length, position, remove};
 ghost use Rattle.std.specs.List.{list_any};
-ghost use Rattle.xf_engine.specs.Held.{HoldEach, held_ids, live_dimensions, passes_at, passes_each_at};
-ghost use Rattle.xf_engine.specs.State.{IsFreeId, filter_of, has_id};
+ghost use Rattle.xf_engine.specs.Held.{HoldEach, held_ids, held_moved, keys_pass, live_dimensions, most_moved, passes_at, passes_each_at};
+ghost use Rattle.xf_engine.specs.State.{IsFreeId, has_id};
+ghost use Rattle.xf_filter.specs.Filter.{filter_of};
 
+use crate::counts::moved_count;
 use crate::ids::DimensionId;
 use crate::key_rows::KeyRows;
 use xf_base::Key;
+use xf_filter::{Filter, Predicate};
 
 /// A live dimension. Its keys are asked of the accessor once for each row.
 #[derive(Drop)]
-pub struct Dimension<A> {
+pub struct Dimension<A, P> {
     pub id: DimensionId,
     pub accessor: A,
-    pub range: Option<(Key, Key)>,
+    pub filter: Filter<P>,
     pub keys: KeyRows,
 }
 
-impl<A> Dimension<A> {
-    /// Sets a range in place of the one that is set.
-    pub fn set_range(&mut self, range: Option<(Key, Key)>)
-        ensures { self.new ≡ record self.old { range = range } }
+impl<A, P: Predicate> Dimension<A, P> {
+    /// Sets a filter in place of the one that is set, and tells how much that moves.
+    pub fn refilter(&mut self, new: Filter<P>) -> u64
+        requires few { most_moved self.old < 2 ^ 64 }
+        ensures moved { result ≡ held_moved P.says_to new self.old }
+        ensures few { result ≤ most_moved self.old }
+        ensures filter { self.new ≡ record self.old { filter = new } }
     {
-        self.range = range;
+        let moved = moved_count(&self.keys, &self.filter, &new);
+        self.filter = new;
+        moved
     }
 }
 
-/// Whether the filter of a range holds for a key.
-pub fn holds(range: &Option<(Key, Key)>, key: &Key) -> bool
-    ensures { result ≡ (filter_of range.now).holds key.now }
+/// Whether a filter holds for one of some keys.
+fn holds_any<P: Predicate>(filter: &Filter<P>, keys: &[Key]) -> bool
+    ensures { result ≡ list_any (filter_of P.says_to filter.now).holds keys.now }
 {
-    match range {
-        Some((low, high)) => low <= key && key < high,
-        None => true,
-    }
+    keys.iter().any(|key| filter.holds(key))
 }
 
-/// Whether the filter of a range holds for one of some keys.
-pub fn holds_any(range: &Option<(Key, Key)>, keys: &[Key]) -> bool
-    ensures { result ≡ list_any (filter_of range.now).holds keys.now }
+/// Whether the keys of a row pass a filter.
+pub fn keys_pass<P: Predicate>(filter: &Filter<P>, keys: &[Key]) -> bool
+    ensures { result ≡ keys_pass P.says_to filter.now keys.now }
 {
-    keys.iter().any(|key| holds(range, key))
+    filter.is_all() || holds_any(filter, keys)
 }
 
 /// Whether the row at a place passes a dimension.
-pub fn passes<A>(dimension: &Dimension<A>, place: usize) -> bool
+pub fn passes<A, P: Predicate>(dimension: &Dimension<A, P>, place: usize) -> bool
     requires { place < length dimension.now.keys }
-    ensures { result ≡ passes_at place dimension.now }
+    ensures { result ≡ passes_at P.says_to place dimension.now }
 {
-    dimension.range.is_none() || holds_any(&dimension.range, dimension.keys.row(place))
+    dimension.filter.is_all() || holds_any(&dimension.filter, dimension.keys.row(place))
 }
 
 /// Whether the row at a place passes each dimension.
-pub fn passes_each<A>(dimensions: &[Dimension<A>], count: usize, place: usize) -> bool
+pub fn passes_each<A, P: Predicate>(
+    dimensions: &[Dimension<A, P>],
+    count: usize,
+    place: usize,
+) -> bool
     requires held { HoldEach count dimensions.now }
     requires place { place < count }
-    ensures { result ≡ passes_each_at dimensions.now place }
+    ensures { result ≡ passes_each_at P.says_to dimensions.now place }
 {
     for dimension in dimensions {
         if !passes(dimension, place) {
@@ -66,18 +75,23 @@ pub fn passes_each<A>(dimensions: &[Dimension<A>], count: usize, place: usize) -
 }
 
 /// Whether the row at a place passes each dimension but one.
-pub fn passes_others<A>(dimensions: &[Dimension<A>], count: usize, but: usize, place: usize) -> bool
+pub fn passes_others<A, P: Predicate>(
+    dimensions: &[Dimension<A, P>],
+    count: usize,
+    but: usize,
+    place: usize,
+) -> bool
     requires held { HoldEach count dimensions.now }
     requires but { but < length dimensions.now }
     requires place { place < count }
-    ensures { result ≡ passes_each_at (remove dimensions.now but) place }
+    ensures { result ≡ passes_each_at P.says_to (remove dimensions.now but) place }
 {
     passes_each(&dimensions[..but], count, place)
         && passes_each(&dimensions[but + 1..], count, place)
 }
 
 /// The place of the dimension of an id.
-pub fn dimension_place<A>(dimensions: &[Dimension<A>], id: DimensionId) -> Option<usize>
+pub fn dimension_place<A, P>(dimensions: &[Dimension<A, P>], id: DimensionId) -> Option<usize>
     ensures { result ≡ position (has_id id.0) (live_dimensions dimensions.now) }
 {
     for (place, dimension) in dimensions.iter().enumerate() {
@@ -89,7 +103,7 @@ pub fn dimension_place<A>(dimensions: &[Dimension<A>], id: DimensionId) -> Optio
 }
 
 /// The least id that no dimension has.
-pub fn free_dimension_id<A>(dimensions: &[Dimension<A>]) -> DimensionId
+pub fn free_dimension_id<A, P>(dimensions: &[Dimension<A, P>]) -> DimensionId
     requires { length dimensions.now < 2 ^ 32 }
     ensures { IsFreeId (held_ids dimensions.now) result.0 }
 {

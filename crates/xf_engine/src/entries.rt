@@ -1,16 +1,16 @@
 //! The keys that dimensions hold of each row: an entry for each.
 ghost use Rattle.std.specs.Prelude.{◌≡◌, ◌≤◌, ◌++◌, IfOk, OnOk, length, map, sum_by, take};
 ghost use Rattle.xf_base.specs.declared.limits.TheConstants.Limits.{DIMENSIONS};
-ghost use Rattle.xf_engine.specs.Held.{HoldEach, held_count, kept_keys, with_keys_of};
+ghost use Rattle.xf_engine.specs.Held.{HoldEach, held_count, kept_keys, retained_keys, with_keys_of};
 
 use crate::dimension::Dimension;
 use crate::key_rows::KeyRows;
 use std::alloc::Global;
 use xf_access::Accessor;
-use xf_base::{OutOfMemory, Row};
+use xf_base::{Gone, OutOfMemory, Row};
 
 /// How many keys the dimensions hold together.
-pub fn entry_count<A>(dimensions: &[Dimension<A>]) -> u64
+pub fn entry_count<A, P>(dimensions: &[Dimension<A, P>]) -> u64
     requires few { length dimensions.now ≤ DIMENSIONS }
     ensures { result ≡ sum_by held_count dimensions.now }
 {
@@ -22,9 +22,9 @@ pub fn entry_count<A>(dimensions: &[Dimension<A>]) -> u64
 }
 
 /// Puts the keys of more rows after those of `count` rows, in each dimension. Without memory for them some may stand there.
-pub fn add_keys<A: Accessor>(
+pub fn add_keys<A: Accessor, P>(
     alloc: Global,
-    dimensions: &mut [Dimension<A>],
+    dimensions: &mut [Dimension<A, P>],
     count: usize,
     rows: &[Row],
 ) -> Result<(), OutOfMemory>
@@ -40,12 +40,23 @@ pub fn add_keys<A: Accessor>(
 }
 
 /// Keeps the keys of the first `count` rows in each dimension.
-pub fn keep_keys<A>(dimensions: &mut [Dimension<A>], count: usize)
+pub fn keep_keys<A, P>(dimensions: &mut [Dimension<A, P>], count: usize)
     ensures { dimensions.new ≡ map (kept_keys count) dimensions.old }
 {
     for place in 0..dimensions.len() {
         let dimension = &mut dimensions[place];
         dimension.keys.truncate(count);
+    }
+}
+
+/// Keeps the keys of the rows that are not gone in each dimension.
+pub fn retain_keys<A, P>(dimensions: &mut [Dimension<A, P>], gone: &Gone)
+    requires { HoldEach (length gone.now) dimensions.old }
+    ensures { dimensions.new ≡ map (retained_keys gone.now) dimensions.old }
+{
+    for place in 0..dimensions.len() {
+        let dimension = &mut dimensions[place];
+        dimension.keys.retain(gone);
     }
 }
 

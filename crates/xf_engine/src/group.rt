@@ -15,6 +15,7 @@ use crate::key_number::KeyNumber;
 use std::alloc::Global;
 use xf_access::{Accessor, Rounding};
 use xf_base::{Key, OutOfMemory, Row};
+use xf_filter::Predicate;
 
 /// A live group.
 #[derive(Drop)]
@@ -106,16 +107,16 @@ fn push_rounded<G: Rounding>(
 }
 
 /// The rounded keys of all rows, each row's once.
-fn collect_key_rows<A: Accessor, G: Rounding>(
+fn collect_key_rows<A: Accessor, G: Rounding, P: Predicate>(
     alloc: Global,
-    dimensions: &[Dimension<A>],
+    dimensions: &[Dimension<A, P>],
     rows: &[Row],
     own: usize,
     rounding: &G,
 ) -> Result<Vec<KeyRow>, OutOfMemory>
     requires own { own < length dimensions.now }
     requires keys { AllByRecursion (HoldsKeysOf A.keys_of rows.now) dimensions.now }
-    ensures { IfOk result (λ v. v.items ≡ key_rows_at A.keys_of (live_dimensions dimensions.now) rows.now (G.rounded rounding.now) own) }
+    ensures { IfOk result (λ v. v.items ≡ key_rows_at A.keys_of P.says_to (live_dimensions dimensions.now) rows.now (G.rounded rounding.now) own) }
 {
     let mut collected = Vec::with_capacity(alloc, rows.len())?;
     for place in 0..rows.len() {
@@ -173,16 +174,16 @@ fn collect_entries(alloc: Global, rows: &[KeyRow]) -> Result<Vec<KeyNumber>, Out
 }
 
 /// The entries of a group that rounds so, under the dimension at a place.
-pub fn group_entries<A: Accessor, G: Rounding>(
+pub fn group_entries<A: Accessor, G: Rounding, P: Predicate>(
     alloc: Global,
-    dimensions: &[Dimension<A>],
+    dimensions: &[Dimension<A, P>],
     rows: &[Row],
     own: usize,
     rounding: &G,
 ) -> Result<Vec<KeyNumber>, OutOfMemory>
     requires own { own < length dimensions.now }
     requires keys { AllByRecursion (HoldsKeysOf A.keys_of rows.now) dimensions.now }
-    ensures { IfOk result (λ v. v.items ≡ key_numbers (entries_at A.keys_of (live_dimensions dimensions.now) rows.now (G.rounded rounding.now) own)) }
+    ensures { IfOk result (λ v. v.items ≡ key_numbers (entries_at A.keys_of P.says_to (live_dimensions dimensions.now) rows.now (G.rounded rounding.now) own)) }
 {
     let mut collected = collect_key_rows(alloc, dimensions, rows, own, rounding)?;
     sort_key_rows(&mut collected);

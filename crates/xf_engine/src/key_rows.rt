@@ -1,10 +1,11 @@
 //! The keys of each row in a dimension, flat: one vector of keys, and one of where each row's end.
+ghost use Rattle.xf_base.specs.Gone.{kept};
 ghost use Rattle.xf_engine.specs.KeyRows.{AreEnds, cut_at, start_of};
-ghost use Rattle.std.specs.Prelude.{◌≡◌, ◌<◌, ◌^◌, [], ◌∷◌, ◌++◌, OnErr, OnOk, Some, length, slice_get, sum_by, take};
+ghost use Rattle.std.specs.Prelude.{◌≡◌, ◌+◌, ◌-◌, ◌<◌, ◌≤◌, ◌^◌, [], ◌∷◌, ◌++◌, OnErr, OnOk, Some, drop, length, slice_get, sum_by, take};
 
 use std::alloc::Global;
 use std::marker::Model;
-use xf_base::{Key, KeyList, OutOfMemory};
+use xf_base::{Gone, Key, KeyList, OutOfMemory};
 
 /// The keys of rows in order, seen by contracts as a list of keys for each row.
 #[derive(Debug, Drop)]
@@ -61,6 +62,17 @@ impl KeyRows {
         }
     }
 
+    /// Keeps the keys of the rows whose places are not removed, in order. It takes no memory.
+    #[tactic(auto, using(crate::proofs::CutAt::cut_length))]
+    pub fn retain(&mut self, gone: &Gone)
+        requires { length gone.now ≡ length self.old }
+        ensures { self.new ≡ kept gone.now self.old }
+    {
+        let (count, filled) = compact(self.keys.as_mut_slice(), self.ends.as_mut_slice(), gone);
+        self.keys.truncate(filled);
+        self.ends.truncate(count);
+    }
+
     /// The keys of the row at a place from 0 on.
     #[tactic(auto, using(crate::proofs::CutAt::cut_length))]
     pub fn row(&self, place: usize) -> &[Key]
@@ -85,6 +97,44 @@ impl KeyRows {
     {
         self.keys.as_slice().len()
     }
+}
+
+/// Moves the keys of the rows that are kept to the front, in order, and tells how many rows and how many keys they are.
+fn compact(keys: &mut [Key], ends: &mut [usize], gone: &Gone) -> (usize, usize)
+    requires ends { AreEnds 0 ends.old (length keys.old) }
+    requires places { length ends.old ≡ length gone.now }
+    ensures within { result.1 ≤ length keys.new }
+    ensures ends { AreEnds 0 (take result.0 ends.new) result.1 }
+    ensures kept { cut_at 0 (take result.0 ends.new) (take result.1 keys.new) ≡ kept gone.now (cut_at 0 ends.old keys.old) }
+{
+    let (mut count, mut filled, mut start) = (0, 0, 0);
+    for place in 0..ends.len() {
+        let end = ends[place];
+        if !gone.is_gone(place) {
+            filled = move_down(keys, start, end, filled);
+            ends[count] = filled;
+            count += 1;
+        }
+        start = end;
+    }
+    (count, filled)
+}
+
+/// Moves the keys from `start` to before `end` down to `to`, in order, and tells where they end then.
+fn move_down(keys: &mut [Key], start: usize, end: usize, to: usize) -> usize
+    requires below { to ≤ start }
+    requires order { start ≤ end }
+    requires within { end ≤ length keys.old }
+    ensures result { result ≡ to + (end - start) }
+    ensures moved { take result keys.new ≡ take to keys.old ++ take (end - start) (drop start keys.old) }
+    ensures later { drop end keys.new ≡ drop end keys.old }
+{
+    let mut next = to;
+    for place in start..end {
+        keys.swap(next, place);
+        next += 1;
+    }
+    next
 }
 
 /// The keys of the row at a place, which end where this row's do and begin where those of the row before it end.

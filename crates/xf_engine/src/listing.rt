@@ -6,25 +6,27 @@ ghost use Rattle.std.specs.List.Sorted.{IsStrictlySortedBy};
 ghost use Rattle.xf_base.specs.Key.{key_cmp};
 ghost use Rattle.xf_engine.specs.Held.{HoldEach, HoldsKeysOf, live_dimension, live_dimensions};
 ghost use Rattle.xf_engine.specs.Listing.{pairs_at, told};
-ghost use Rattle.xf_engine.specs.State.{dimension_of, dimensions_of, filter_of};
+ghost use Rattle.xf_engine.specs.State.{dimension_of, dimensions_of};
+ghost use Rattle.xf_filter.specs.Filter.{filter_of};
 ghost use Rattle.xf_model.specs.Bottom.{bottom, places_of, top};
 
-use crate::dimension::{Dimension, holds, passes_each};
+use crate::dimension::{Dimension, passes_each};
 use std::alloc::Global;
 use xf_access::Accessor;
 use xf_base::{Key, OutOfMemory, Row};
+use xf_filter::{Filter, Predicate};
 
-/// Puts the keys of a row for which a range's filter holds behind others, each with the row's place.
-fn push_pairs<'a>(
+/// Puts the keys of a row for which a filter holds behind others, each with the row's place.
+fn push_pairs<'a, P: Predicate>(
     pairs: &mut Vec<(&'a Key, usize)>,
-    range: &Option<(Key, Key)>,
+    own: &Filter<P>,
     keys: &'a [Key],
     place: usize,
 ) -> Result<(), OutOfMemory>
-    ensures { OnOk result (told pairs.new.items ≡ told pairs.old.items ++ map (λ key. (key, place)) (filter (filter_of range.now).holds keys.now)) }
+    ensures { OnOk result (told pairs.new.items ≡ told pairs.old.items ++ map (λ key. (key, place)) (filter (filter_of P.says_to own.now).holds keys.now)) }
 {
     for key in keys {
-        if holds(range, key) {
+        if own.holds(key) {
             pairs.push((key, place))?;
         }
     }
@@ -32,36 +34,36 @@ fn push_pairs<'a>(
 }
 
 /// The keys for which a dimension's own filter holds, of the rows that pass each dimension, in order of the rows.
-fn collect_pairs<'a, A>(
+fn collect_pairs<'a, A, P: Predicate>(
     alloc: Global,
-    dimensions: &[Dimension<A>],
-    own: &'a Dimension<A>,
+    dimensions: &[Dimension<A, P>],
+    own: &'a Dimension<A, P>,
     count: usize,
 ) -> Result<Vec<(&'a Key, usize)>, OutOfMemory>
     requires held { HoldEach count dimensions.now }
     requires own { length own.now.keys ≡ count }
-    ensures { IfOk result (λ pairs. told pairs.items ≡ flat_map (pairs_at dimensions.now own.now) (range_with_len 0 count)) }
+    ensures { IfOk result (λ pairs. told pairs.items ≡ flat_map (pairs_at P.says_to dimensions.now own.now) (range_with_len 0 count)) }
 {
     let mut pairs = Vec::new(alloc);
     for place in 0..count {
         if passes_each(dimensions, count, place) {
-            push_pairs(&mut pairs, &own.range, own.keys.row(place), place)?;
+            push_pairs(&mut pairs, &own.filter, own.keys.row(place), place)?;
         }
     }
     Ok(pairs)
 }
 
 /// The same, ascending by key and then by place.
-fn sorted_pairs<'a, A: Accessor>(
+fn sorted_pairs<'a, A: Accessor, P: Predicate>(
     alloc: Global,
-    dimensions: &[Dimension<A>],
-    own: &'a Dimension<A>,
+    dimensions: &[Dimension<A, P>],
+    own: &'a Dimension<A, P>,
     rows: &[Row],
 ) -> Result<Vec<(&'a Key, usize)>, OutOfMemory>
     requires keys { AllByRecursion (HoldsKeysOf A.keys_of rows.now) dimensions.now }
     requires own { HoldsKeysOf A.keys_of rows.now own.now }
     requires ascending { AllByRecursion (λ row. IsStrictlySortedBy key_cmp (A.keys_of own.now.accessor row)) rows.now }
-    ensures { IfOk result (λ pairs. told pairs.items ≡ bottom key_cmp (dimensions_of A.keys_of (live_dimensions dimensions.now)) (dimension_of A.keys_of (live_dimension own.now)) rows.now) }
+    ensures { IfOk result (λ pairs. told pairs.items ≡ bottom key_cmp (dimensions_of A.keys_of P.says_to (live_dimensions dimensions.now)) (dimension_of A.keys_of P.says_to (live_dimension own.now)) rows.now) }
 {
     let mut pairs = collect_pairs(alloc, dimensions, own, rows.len())?;
     pairs.sort_unstable();
@@ -108,10 +110,10 @@ fn last_places(
 }
 
 /// The places of the rows with the least keys of a dimension: the first `k` after the first `offset`.
-pub fn bottom_places<A: Accessor>(
+pub fn bottom_places<A: Accessor, P: Predicate>(
     alloc: Global,
-    dimensions: &[Dimension<A>],
-    own: &Dimension<A>,
+    dimensions: &[Dimension<A, P>],
+    own: &Dimension<A, P>,
     rows: &[Row],
     k: usize,
     offset: usize,
@@ -119,17 +121,17 @@ pub fn bottom_places<A: Accessor>(
     requires keys { AllByRecursion (HoldsKeysOf A.keys_of rows.now) dimensions.now }
     requires own { HoldsKeysOf A.keys_of rows.now own.now }
     requires ascending { AllByRecursion (λ row. IsStrictlySortedBy key_cmp (A.keys_of own.now.accessor row)) rows.now }
-    ensures { IfOk result (λ v. v.items ≡ places_of k offset (bottom key_cmp (dimensions_of A.keys_of (live_dimensions dimensions.now)) (dimension_of A.keys_of (live_dimension own.now)) rows.now)) }
+    ensures { IfOk result (λ v. v.items ≡ places_of k offset (bottom key_cmp (dimensions_of A.keys_of P.says_to (live_dimensions dimensions.now)) (dimension_of A.keys_of P.says_to (live_dimension own.now)) rows.now)) }
 {
     let pairs = sorted_pairs(alloc, dimensions, own, rows)?;
     first_places(alloc, &pairs, k, offset)
 }
 
 /// The places of the rows with the greatest keys of a dimension: the first `k` after the first `offset`.
-pub fn top_places<A: Accessor>(
+pub fn top_places<A: Accessor, P: Predicate>(
     alloc: Global,
-    dimensions: &[Dimension<A>],
-    own: &Dimension<A>,
+    dimensions: &[Dimension<A, P>],
+    own: &Dimension<A, P>,
     rows: &[Row],
     k: usize,
     offset: usize,
@@ -137,7 +139,7 @@ pub fn top_places<A: Accessor>(
     requires keys { AllByRecursion (HoldsKeysOf A.keys_of rows.now) dimensions.now }
     requires own { HoldsKeysOf A.keys_of rows.now own.now }
     requires ascending { AllByRecursion (λ row. IsStrictlySortedBy key_cmp (A.keys_of own.now.accessor row)) rows.now }
-    ensures { IfOk result (λ v. v.items ≡ places_of k offset (top key_cmp (dimensions_of A.keys_of (live_dimensions dimensions.now)) (dimension_of A.keys_of (live_dimension own.now)) rows.now)) }
+    ensures { IfOk result (λ v. v.items ≡ places_of k offset (top key_cmp (dimensions_of A.keys_of P.says_to (live_dimensions dimensions.now)) (dimension_of A.keys_of P.says_to (live_dimension own.now)) rows.now)) }
 {
     let pairs = sorted_pairs(alloc, dimensions, own, rows)?;
     last_places(alloc, &pairs, k, offset)

@@ -11,12 +11,14 @@ use crate::ids::{DimensionId, NoDimension};
 use std::sync::ledger::Ledger;
 use xf_access::{Accessor, Rounding};
 use xf_base::Steps;
+use xf_filter::{Filter, Predicate};
 
-impl<A: Accessor, G: Rounding> Cross<A, G> {
+impl<A: Accessor, G: Rounding, P: Predicate> Cross<A, G, P> {
     ghost use Rattle.xf_engine.specs.Answers.{moved_by};
     ghost use Rattle.xf_engine.specs.Changes.{with_dimension, without_dimension};
     ghost use Rattle.xf_engine.specs.Refusals.{dimension_refusal_of, no_dimension, unless_none};
     ghost use Rattle.xf_engine.specs.State.{IsFreeId, dimension_ids};
+    ghost use Rattle.xf_filter.specs.declared.filter.Filter.TheVariants.{All};
 
     /// Adds a dimension, without a filter. Its id is the least that no live dimension has. The accessor is asked for the
     /// keys of each record once, here or when the record comes.
@@ -47,7 +49,7 @@ impl<A: Accessor, G: Rounding> Cross<A, G> {
         self.dimensions.push(Dimension {
             id,
             accessor,
-            range: None,
+            filter: Filter::All,
             keys,
         })?;
         Ok(id)
@@ -59,7 +61,7 @@ impl<A: Accessor, G: Rounding> Cross<A, G> {
         id: DimensionId,
         steps: &mut Steps<L>,
     ) -> Result<u64, NoDimension>
-        ensures moved { result ≡ unless_none (no_dimension id.0) (moved_by A.keys_of self.old id.0 None) }
+        ensures moved { result ≡ unless_none (no_dimension id.0) (moved_by A.keys_of P.says_to self.old id.0 All) }
         ensures state { self.new ≡ without_dimension self.old id.0 }
     {
         let Some(place) = self.place_of(id) else {
@@ -67,7 +69,7 @@ impl<A: Accessor, G: Rounding> Cross<A, G> {
         };
         steps.tick_by(self.table.len() as u64);
         let dimension = &self.dimensions[place];
-        let moved = moved_count(&dimension.keys, &dimension.range, &None);
+        let moved = moved_count(&dimension.keys, &dimension.filter, &Filter::All);
         self.dimensions.remove(place);
         drop_groups_of(&mut self.groups, id);
         Ok(moved)

@@ -9,8 +9,9 @@ use crate::key_number::KeyNumber;
 use std::sync::ledger::Ledger;
 use xf_access::{Accessor, Rounding};
 use xf_base::Steps;
+use xf_filter::Predicate;
 
-impl<A: Accessor, G: Rounding> Cross<A, G> {
+impl<A: Accessor, G: Rounding, P: Predicate> Cross<A, G, P> {
     ghost use Rattle.xf_engine.specs.Answers.{entries_of};
     ghost use Rattle.xf_engine.specs.Changes.{with_group, without_group};
     ghost use Rattle.xf_engine.specs.Refusals.{dimension_id, group_refusal_of, no_group, unless_none};
@@ -75,7 +76,7 @@ impl<A: Accessor, G: Rounding> Cross<A, G> {
         id: GroupId,
         steps: &mut Steps<L>,
     ) -> Result<Vec<KeyNumber>, GroupListRefusal>
-        ensures entries { IfOk result (λ v. entries_of A.keys_of G.rounded self.now id.0 ≡ Some v.items) }
+        ensures entries { IfOk result (λ v. entries_of A.keys_of P.says_to G.rounded self.now id.0 ≡ Some v.items) }
         ensures refused { IfErr result (λ cause. (cause ≡ GroupListRefusal.OutOfMemory)
             ⊎ ((cause ≡ GroupListRefusal.NoGroup id.0) × (group_named self.now id.0 ≡ None))) }
     {

@@ -10,13 +10,15 @@ use crate::add_refusal::AddRefusal;
 use crate::cross::Cross;
 use crate::dimension::Dimension;
 use crate::entries::{add_keys, entry_count, keep_keys};
+use crate::events::one_more;
 use std::alloc::Global;
 use std::sync::ledger::Ledger;
 use xf_access::{Accessor, Rounding};
 use xf_base::{RowList, Steps};
+use xf_filter::Predicate;
 use xf_table::Table;
 
-impl<A: Accessor, G: Rounding> Cross<A, G> {
+impl<A: Accessor, G: Rounding, P: Predicate> Cross<A, G, P> {
     ghost use Rattle.xf_engine.specs.Changes.{with_rows};
     ghost use Rattle.xf_engine.specs.Refusals.{add_refusal_of};
 
@@ -38,16 +40,17 @@ impl<A: Accessor, G: Rounding> Cross<A, G> {
         if let Err(cause) = grow(self.alloc, &mut self.table, &mut self.dimensions, rows) {
             return Err(cause);
         }
+        self.events.added = one_more(self.events.added);
         Ok(())
     }
 }
 
 /// Puts the keys of rows into each dimension and the rows into the table, or leaves both as they were where the entries
 /// would be too many or memory is refused.
-fn grow<A: Accessor>(
+fn grow<A: Accessor, P: Drop>(
     alloc: Global,
     table: &mut Table,
-    dimensions: &mut [Dimension<A>],
+    dimensions: &mut [Dimension<A, P>],
     rows: RowList,
 ) -> Result<(), AddRefusal>
     requires taken { refusal_of table.old rows ≡ None }

@@ -1,8 +1,9 @@
-use Rattle.std.proofs.Common.{◌≡◌, is_none, false, ◌∙◌, rules}
+use Rattle.std.proofs.Common.{◌≡◌, false, sym, ◌∙◌, rules}
 use Rattle.xf_engine.proofs.Passes.{passes_at-keys}
+use Rattle.xf_filter.specs.Filter.{filter_of}
 use Rattle.xf_engine.proofs.dimension.passes.Goals as goal
 
-pub returns-else-is_none : goal.returns-else-is_none
-returns-else-is_none g c =
-    let set : is_none c.args.dimension.now.range ≡ false = search rules in
-    c.holds_any.ensures ∙ passes_at-keys c.args.dimension.now c.args.place c.row.result.now set c.row.ensures
+pub returns-else-is_all : goal.returns-else-is_all
+returns-else-is_all g c =
+    let set : (filter_of g.P.Predicate.says_to c.args.dimension.now.filter).is_all ≡ false = sym c.is_all.ensures ∙ c.if-is_all.false in
+    c.holds_any.ensures ∙ passes_at-keys g.P.Predicate.says_to c.args.dimension.now c.args.place c.row.result.now set c.row.ensures

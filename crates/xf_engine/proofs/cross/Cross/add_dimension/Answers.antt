@@ -1,4 +1,4 @@
-use Rattle.std.proofs.Common.{rules, ◌≡◌, inr, ◌+◌, ◌<◌, ◌≤◌, Some, None, true, false, [], ◌∷◌, ◌++◌, length, map, refl, sym, ap, subst, ◌∙◌, arith}
+use Rattle.std.proofs.Common.{rules, ◌≡◌, inr, ◌+◌, ◌<◌, ◌≤◌, Some, true, false, [], ◌∷◌, ◌++◌, length, map, refl, sym, ap, subst, ◌∙◌, arith}
 use Rattle.std.proofs.lemmas.List.{length-map}
 use Rattle.std.specs.List.{sum_by}
 use Rattle.xf_base.specs.Bounds.{Bounds}
@@ -6,6 +6,7 @@ use Rattle.xf_engine.specs.Held.{HoldsKeysOf, held_count, held_ids, live_dimensi
 use Rattle.xf_engine.specs.State.{IsFreeId, IsState, dimension_ids, entries_by, entry_count, is_taken}
 use Rattle.xf_engine.specs.declared.dimension.Dimension.{Dimension}
 use Rattle.xf_engine.specs.declared.dimension_refusal.DimensionRefusal.TheVariants.{TooManyEntries}
+use Rattle.xf_filter.specs.declared.filter.Filter.TheVariants.{All}
 use Rattle.xf_engine.proofs.Added.{accepted-dimension, refused-dimension}
 use Rattle.xf_engine.proofs.ById.{all-push}
 use Rattle.xf_engine.proofs.HeldCounts.{held-entries, sum-map}
@@ -27,7 +28,7 @@ returns-then-more-limit-clause-refused g c =
     let table = c.self.inside.table in
     let items = c.self.inside.dimensions.items in
     let groups = c.self.inside.groups.items in
-    let here = state_of table items groups in
+    let here = state_of table items groups c.self.inside.events in
     let limit : c.behind-self-2.inside.entries ≡ table.limits.entries = ap (λ (b : Bounds). b.entries) (c.behind-self-2.view_is ∙ c.limits-2.ensures) in
     let most : c.behind-self.inside.dimensions ≡ table.limits.dimensions = ap (λ (b : Bounds). b.dimensions) (c.behind-self.view_is ∙ c.limits.ensures) in
     let long : length (live_dimensions items) ≡ c.len.result = length-map items live_dimension ∙ search rules in
@@ -44,7 +45,7 @@ invariant_of-self-2 g c =
     let table = c.self.inside.table in
     let items = c.self.inside.dimensions.items in
     let groups = c.self.inside.groups.items in
-    let here = state_of table items groups in
+    let here = state_of table items groups c.self.inside.events in
     let limit : c.behind-self-2.inside.entries ≡ table.limits.entries = ap (λ (b : Bounds). b.entries) (c.behind-self-2.view_is ∙ c.limits-2.ensures) in
     let most : c.behind-self.inside.dimensions ≡ table.limits.dimensions = ap (λ (b : Bounds). b.dimensions) (c.behind-self.view_is ∙ c.limits.ensures) in
     let long : length (live_dimensions items) ≡ c.len.result = length-map items live_dimension ∙ search rules in
@@ -53,13 +54,13 @@ invariant_of-self-2 g c =
     let more : c.key_count-more.result ≡ entries_by keys_of table.rows c.args.accessor = c.key_count-more.ensures.count ∙ ap (sum_by length) keys ∙ sum-map length (keys_of c.args.accessor) table.rows in
     let few : length here.dimensions < table.limits.dimensions = omega (arith, most, long, c.if-len-limit.false) in
     let room : entry_count keys_of here table.rows + entries_by keys_of table.rows c.args.accessor ≤ table.limits.entries = omega (arith, limit, have, more, c.if-more-limit.false, c.self.invariant.state.few_entries) in
-    let dimension : Dimension g.row.A.Denot = record { id = c.free_dimension_id-id.result; accessor = c.args.accessor; range = None; keys = c.in_ok-keys.keys } in
+    let dimension : Dimension g.row.A.Denot g.row.P.Denot = record { id = c.free_dimension_id-id.result; accessor = c.args.accessor; filter = All; keys = c.in_ok-keys.keys } in
     let pushed : c.push.new.self.items ≡ items ++ dimension ∷ [] = search rules in
     let free : is_taken (dimension_ids here.dimensions) c.free_dimension_id-id.result.0 ≡ false = ap (λ ids. is_taken ids c.free_dimension_id-id.result.0) (ids-live items) ∙ ap (λ held. is_taken (held_ids held) c.free_dimension_id-id.result.0) (sym c.as_slice-3.ensures.value) ∙ c.free_dimension_id-id.ensures.free in
     let fit = subst (λ s. g.A.Accessor.fits_to c.args.accessor s.columns ≡ true) (sym c.self.view_is) c.requires in
     rw pushed (record {
-      state = subst (IsState keys_of g.A.Accessor.fits_to g.A.Accessor.kind_of) (sym (held-with_dimension table items groups dimension refl))
-          (sound-with_dimension keys_of g.A.Accessor.fits_to g.A.Accessor.kind_of here c.free_dimension_id-id.result.0 c.args.accessor c.self.invariant.state free fit few room);
+      state = subst (IsState keys_of g.A.Accessor.fits_to g.A.Accessor.kind_of g.P.Predicate.keys_in) (sym (held-with_dimension table items groups c.self.inside.events dimension refl))
+          (sound-with_dimension keys_of g.A.Accessor.fits_to g.A.Accessor.kind_of g.P.Predicate.keys_in here c.free_dimension_id-id.result.0 c.args.accessor c.self.invariant.state free fit few room);
       keys = all-push (HoldsKeysOf keys_of table.rows) items dimension c.self.invariant.keys keys;
     })
 
@@ -74,7 +75,7 @@ returns-clause-accepted g c =
     let table = c.self.inside.table in
     let items = c.self.inside.dimensions.items in
     let groups = c.self.inside.groups.items in
-    let here = state_of table items groups in
+    let here = state_of table items groups c.self.inside.events in
     let limit : c.behind-self-2.inside.entries ≡ table.limits.entries = ap (λ (b : Bounds). b.entries) (c.behind-self-2.view_is ∙ c.limits-2.ensures) in
     let most : c.behind-self.inside.dimensions ≡ table.limits.dimensions = ap (λ (b : Bounds). b.dimensions) (c.behind-self.view_is ∙ c.limits.ensures) in
     let long : length (live_dimensions items) ≡ c.len.result = length-map items live_dimension ∙ search rules in

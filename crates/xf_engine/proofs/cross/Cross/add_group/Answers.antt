@@ -17,7 +17,7 @@ returns-then-is_none-clause-refused g c =
 
 pub returns-then-len-limit-clause-refused : goal.returns-then-len-limit-clause-refused
 returns-then-len-limit-clause-refused g c =
-    let here = state_of c.self.inside.table c.self.inside.dimensions.items c.self.inside.groups.items in
+    let here = state_of c.self.inside.table c.self.inside.dimensions.items c.self.inside.groups.items c.self.inside.events in
     let some : is_some (dimension_place here c.args.dimension.0) ≡ true = ap (λ s. is_some (dimension_place s c.args.dimension.0)) c.self.view_is ∙ search (rules, ap is_some c.place_of.ensures) in
     let limit : c.behind-self.inside.groups ≡ c.self.inside.table.limits.groups = ap (λ (b : Bounds). b.groups) (c.behind-self.view_is ∙ c.limits.ensures) in
     let long : length (live_groups c.self.inside.groups.items) ≡ c.len.result = length-map c.self.inside.groups.items live_group ∙ search rules in
@@ -25,17 +25,17 @@ returns-then-len-limit-clause-refused g c =
 
 pub invariant_of-self-2 : goal.invariant_of-self-2
 invariant_of-self-2 g c =
-    let here = state_of c.self.inside.table c.self.inside.dimensions.items c.self.inside.groups.items in
+    let here = state_of c.self.inside.table c.self.inside.dimensions.items c.self.inside.groups.items c.self.inside.events in
     let some : is_some (dimension_place here c.args.dimension.0) ≡ true = ap (λ s. is_some (dimension_place s c.args.dimension.0)) c.self.view_is ∙ search (rules, ap is_some c.place_of.ensures) in
     let limit : c.behind-self.inside.groups ≡ c.self.inside.table.limits.groups = ap (λ (b : Bounds). b.groups) (c.behind-self.view_is ∙ c.limits.ensures) in
     let long : length (live_groups c.self.inside.groups.items) ≡ c.len.result = length-map c.self.inside.groups.items live_group ∙ search rules in
     let group : Group g.row.G.Denot = record { id = c.free_group_id-id.result; dimension = c.args.dimension; rounding = c.args.rounding } in
     let items : c.push.new.self.items ≡ c.self.inside.groups.items ++ group ∷ [] = search rules in
     let free : is_taken (group_ids here.groups) c.free_group_id-id.result.0 ≡ false = ap (λ ids. is_taken ids c.free_group_id-id.result.0) (ids-live_group c.self.inside.groups.items) ∙ ap (λ held. is_taken (held_group_ids held) c.free_group_id-id.result.0) (sym c.as_slice.ensures.value) ∙ c.free_group_id-id.ensures.free in
-    let taken = taken-if-placed (λ (d : LiveDimension g.row.A.Denot). d.id) c.args.dimension.0 here.dimensions some in
+    let taken = taken-if-placed (λ (d : LiveDimension g.row.A.Denot g.row.P.Denot). d.id) c.args.dimension.0 here.dimensions some in
     rw items (record {
-      state = subst (IsState g.A.Accessor.keys_of g.A.Accessor.fits_to g.A.Accessor.kind_of) (sym (held-with_group c.self.inside.table c.self.inside.dimensions.items c.self.inside.groups.items group))
-          (sound-with_group g.A.Accessor.keys_of g.A.Accessor.fits_to g.A.Accessor.kind_of here c.free_group_id-id.result.0 c.args.dimension.0 c.args.rounding c.self.invariant.state free taken (omega (arith, limit, long, c.if-len-limit.false)));
+      state = subst (IsState g.A.Accessor.keys_of g.A.Accessor.fits_to g.A.Accessor.kind_of g.P.Predicate.keys_in) (sym (held-with_group c.self.inside.table c.self.inside.dimensions.items c.self.inside.groups.items c.self.inside.events group))
+          (sound-with_group g.A.Accessor.keys_of g.A.Accessor.fits_to g.A.Accessor.kind_of g.P.Predicate.keys_in here c.free_group_id-id.result.0 c.args.dimension.0 c.args.rounding c.self.invariant.state free taken (omega (arith, limit, long, c.if-len-limit.false)));
       keys = c.self.invariant.keys;
     })
 
@@ -44,7 +44,7 @@ returns-clause-id g c = rw (← c.self.view_is) (subst (λ ids. IsFreeId ids c.f
 
 pub returns-clause-accepted : goal.returns-clause-accepted
 returns-clause-accepted g c =
-    let here = state_of c.self.inside.table c.self.inside.dimensions.items c.self.inside.groups.items in
+    let here = state_of c.self.inside.table c.self.inside.dimensions.items c.self.inside.groups.items c.self.inside.events in
     let some : is_some (dimension_place here c.args.dimension.0) ≡ true = ap (λ s. is_some (dimension_place s c.args.dimension.0)) c.self.view_is ∙ search (rules, ap is_some c.place_of.ensures) in
     let limit : c.behind-self.inside.groups ≡ c.self.inside.table.limits.groups = ap (λ (b : Bounds). b.groups) (c.behind-self.view_is ∙ c.limits.ensures) in
     let long : length (live_groups c.self.inside.groups.items) ≡ c.len.result = length-map c.self.inside.groups.items live_group ∙ search rules in

@@ -29,9 +29,9 @@ invariant_of-self-2 g c =
     let more = more-entries keys_of c.args.rows items in
     let room : sum_by held_count items + more_count keys_of c.args.rows items ≤ table.limits.entries = subst (λ held. sum_by held_count held + more_count keys_of c.args.rows held ≤ table.limits.entries) c.deref_mut.ensures.value c.in_default-grow.ensures.room in
     let few = taken-few table c.args.rows none in
-    rw (c.in_default-grow.ensures.rows, whole) (record {
-      state = subst (IsState keys_of g.A.Accessor.fits_to g.A.Accessor.kind_of) (sym (held-with_rows keys_of table items groups c.args.rows))
-          (sound-with_rows keys_of g.A.Accessor.fits_to g.A.Accessor.kind_of (state_of table items groups) c.args.rows c.self.invariant.state few.1 few.0 (omega (arith, have, more, room)));
+    rw (c.in_default-grow.ensures.rows, whole, c.one_more-self-inside.ensures) (record {
+      state = subst (IsState keys_of g.A.Accessor.fits_to g.A.Accessor.kind_of g.P.Predicate.keys_in) (sym (held-with_rows keys_of table items groups c.self.inside.events c.args.rows))
+          (sound-with_rows keys_of g.A.Accessor.fits_to g.A.Accessor.kind_of g.P.Predicate.keys_in (state_of table items groups c.self.inside.events) c.args.rows c.self.invariant.state few.1 few.0 (omega (arith, have, more, room)));
       keys = holds-more keys_of table.rows c.args.rows items c.self.invariant.keys;
     })
 
@@ -48,7 +48,7 @@ returns-clause-ok g c =
     let have = held-entries keys_of table.rows items c.self.invariant.keys in
     let more = more-entries keys_of c.args.rows items in
     let room : sum_by held_count items + more_count keys_of c.args.rows items ≤ table.limits.entries = subst (λ held. sum_by held_count held + more_count keys_of c.args.rows held ≤ table.limits.entries) c.deref_mut.ensures.value c.in_default-grow.ensures.room in
-    rw (c.in_default-grow.ensures.rows, whole, ← c.self.view_is) (held-with_rows keys_of table items groups c.args.rows)
+    rw (c.in_default-grow.ensures.rows, whole, c.one_more-self-inside.ensures, ← c.self.view_is) (held-with_rows keys_of table items groups c.self.inside.events c.args.rows)
 
 pub returns-clause-accepted : goal.returns-clause-accepted
 returns-clause-accepted g c =
@@ -63,7 +63,7 @@ returns-clause-accepted g c =
     let have = held-entries keys_of table.rows items c.self.invariant.keys in
     let more = more-entries keys_of c.args.rows items in
     let room : sum_by held_count items + more_count keys_of c.args.rows items ≤ table.limits.entries = subst (λ held. sum_by held_count held + more_count keys_of c.args.rows held ≤ table.limits.entries) c.deref_mut.ensures.value c.in_default-grow.ensures.room in
-    rw (← c.self.view_is) (added-rows keys_of (state_of table items groups) c.args.rows none (omega (arith, have, more, room)))
+    rw (← c.self.view_is) (added-rows keys_of (state_of table items groups c.self.inside.events) c.args.rows none (omega (arith, have, more, room)))
 
 pub returns-in-Err-clause-refused : goal.returns-in-Err-clause-refused
 returns-in-Err-clause-refused g c =
@@ -71,4 +71,4 @@ returns-in-Err-clause-refused g c =
     let table = c.self.inside.table in
     let none : refusal_of table c.args.rows ≡ None = sym c.refusal_of.ensures ∙ c.in_default.is in
     let told = subst (λ held. IsEntryRefusal table.limits.entries (sum_by held_count held) (more_count keys_of c.args.rows held) c.in-Err.cause) c.deref_mut.ensures.value c.in-Err.ensures.refused in
-    rw (← c.self.view_is) (refused-rows keys_of table c.self.inside.dimensions.items c.self.inside.groups.items c.args.rows c.in-Err.cause c.self.invariant.keys none told)
+    rw (← c.self.view_is) (refused-rows keys_of table c.self.inside.dimensions.items c.self.inside.groups.items c.self.inside.events c.args.rows c.in-Err.cause c.self.invariant.keys none told)

@@ -15,7 +15,7 @@ pub bottom_places-requires-clause-ascending : goal.bottom_places-requires-clause
 bottom_places-requires-clause-ascending g c =
     let told = ap (λ s. dimension_place s c.args.id.0) c.self.view_is ∙ sym c.place_of.ensures ∙ c.in-Some.is in
     let within = (placed-dimension c.args.id.0 c.self.inside.dimensions.items c.in-Some.place c.index.result.now told).0 in
-    let fit = live-at (λ (live : LiveDimension g.row.A.Denot). g.A.Accessor.fits_to live.accessor c.self.inside.table.columns ≡ true) c.self.inside.dimensions.items c.in-Some.place c.index.result.now c.self.invariant.state.fit within c.index.ensures in
+    let fit = live-at (λ (live : LiveDimension g.row.A.Denot g.row.P.Denot). g.A.Accessor.fits_to live.accessor c.self.inside.table.columns ≡ true) c.self.inside.dimensions.items c.in-Some.place c.index.result.now c.self.invariant.state.fit within c.index.ensures in
     rw (c.as_slice-2.ensures, c.rows.ensures.rows) (rows-ascend g.A.Accessor.keys_of g.A.Accessor.fits_to g.A.Accessor.kind_of g.A.Accessor.gives_many g.met.A.Accessor.lawful c.index.result.now.accessor c.self.inside.table.columns c.self.inside.table.rows fit c.self.invariant.state.of_schema)
 
 pub returns-clause-places : goal.returns-clause-places
@@ -23,12 +23,13 @@ returns-clause-places g c =
     let told = ap (λ s. dimension_place s c.args.id.0) c.self.view_is ∙ sym c.place_of.ensures ∙ c.in-Some.is in
     let named = find-placed-dimension c.args.id.0 c.self.inside.dimensions.items c.in-Some.place c.index.result.now told ∙ ap (λ d. Some (live_dimension d)) (sym c.index.ensures) in
     let keys_of = g.A.Accessor.keys_of in
-    let own = dimension_of keys_of (live_dimension c.index.result.now) in
-    let items : c.in_ok-bottom_places.field-0.items ≡ places_of c.args.k c.args.offset (bottom key_cmp (dimensions_of keys_of (live_dimensions c.self.inside.dimensions.items)) own c.self.inside.table.rows) =
+    let says = g.P.Predicate.says_to in
+    let own = dimension_of keys_of says (live_dimension c.index.result.now) in
+    let items : c.in_ok-bottom_places.field-0.items ≡ places_of c.args.k c.args.offset (bottom key_cmp (dimensions_of keys_of says (live_dimensions c.self.inside.dimensions.items)) own c.self.inside.table.rows) =
     c.in_ok-bottom_places.ensures
-    ∙ ap (λ held. places_of c.args.k c.args.offset (bottom key_cmp (dimensions_of keys_of (live_dimensions held)) own c.as_slice-2.result.now)) c.as_slice.ensures.value
-    ∙ ap (λ rows. places_of c.args.k c.args.offset (bottom key_cmp (dimensions_of keys_of (live_dimensions c.self.inside.dimensions.items)) own rows)) (c.as_slice-2.ensures ∙ c.rows.ensures.rows) in
+    ∙ ap (λ held. places_of c.args.k c.args.offset (bottom key_cmp (dimensions_of keys_of says (live_dimensions held)) own c.as_slice-2.result.now)) c.as_slice.ensures.value
+    ∙ ap (λ rows. places_of c.args.k c.args.offset (bottom key_cmp (dimensions_of keys_of says (live_dimensions c.self.inside.dimensions.items)) own rows)) (c.as_slice-2.ensures ∙ c.rows.ensures.rows) in
     rw (← c.self.view_is) (
-    ap (option_map (λ live. places_of c.args.k c.args.offset (bottom key_cmp (dimensions_of keys_of (live_dimensions c.self.inside.dimensions.items)) (dimension_of keys_of live) c.self.inside.table.rows))) named
+    ap (option_map (λ live. places_of c.args.k c.args.offset (bottom key_cmp (dimensions_of keys_of says (live_dimensions c.self.inside.dimensions.items)) (dimension_of keys_of says live) c.self.inside.table.rows))) named
     ∙ ap Some (sym items)
     )

@@ -18,9 +18,9 @@ returns-in_default-clause-state g c = no-group c.args.self.now c.args.id.0 (sym 
 pub invariant_of-self : goal.invariant_of-self
 invariant_of-self g c =
     let told = ap (λ s. group_place s c.args.id.0) c.self.view_is ∙ sym c.group_place_of.ensures ∙ c.in-Some.is in
-    let held = held-without_group c.self.inside.table c.self.inside.dimensions.items c.self.inside.groups.items c.args.id.0 c.in-Some.place c.remove.result c.self.invariant.state.distinct_groups told in
+    let held = held-without_group c.self.inside.table c.self.inside.dimensions.items c.self.inside.groups.items c.self.inside.events c.args.id.0 c.in-Some.place c.remove.result c.self.invariant.state.distinct_groups told in
     rw c.remove.ensures.items (record {
-      state = subst (IsState g.A.Accessor.keys_of g.A.Accessor.fits_to g.A.Accessor.kind_of) (sym held) (sound-without_group g.A.Accessor.keys_of g.A.Accessor.fits_to g.A.Accessor.kind_of (state_of c.self.inside.table c.self.inside.dimensions.items c.self.inside.groups.items) c.args.id.0 c.self.invariant.state);
+      state = subst (IsState g.A.Accessor.keys_of g.A.Accessor.fits_to g.A.Accessor.kind_of g.P.Predicate.keys_in) (sym held) (sound-without_group g.A.Accessor.keys_of g.A.Accessor.fits_to g.A.Accessor.kind_of g.P.Predicate.keys_in (state_of c.self.inside.table c.self.inside.dimensions.items c.self.inside.groups.items c.self.inside.events) c.args.id.0 c.self.invariant.state);
       keys = c.self.invariant.keys;
     })
 
@@ -31,4 +31,4 @@ returns-clause-answer g c =
 pub returns-clause-state : goal.returns-clause-state
 returns-clause-state g c =
     let told = ap (λ s. group_place s c.args.id.0) c.self.view_is ∙ sym c.group_place_of.ensures ∙ c.in-Some.is in
-    rw (← c.self.view_is, c.remove.ensures.items) (held-without_group c.self.inside.table c.self.inside.dimensions.items c.self.inside.groups.items c.args.id.0 c.in-Some.place c.remove.result c.self.invariant.state.distinct_groups told)
+    rw (← c.self.view_is, c.remove.ensures.items) (held-without_group c.self.inside.table c.self.inside.dimensions.items c.self.inside.groups.items c.self.inside.events c.args.id.0 c.in-Some.place c.remove.result c.self.invariant.state.distinct_groups told)
