@@ -1,5 +1,5 @@
 -- The standard crossfilter of a board: a column more, its records, and a filter that is set.
-use Rattle.std.proofs.Common.{◌≡◌, ℕ, ◌+◌, ◌*◌, ◌<◌, ◌≤◌, ◌==◌, nat_le, nat_lt, Bool, true, false, cond, List, [], ◌∷◌, ◌++◌, length, sum_by, map, Option, Some, None, Result, Ok, Err, option_map, option_to_list, slice_get, unwrap_or, refl, sym, ap, subst, ◌∙◌, arith}
+use Rattle.std.proofs.Common.{◌≡◌, ℕ, ◌+◌, ◌*◌, ◌<◌, ◌≤◌, ◌==◌, nat_le, nat_lt, Bool, true, false, cond, List, [], ◌∷◌, ◌++◌, length, sum_by, map, Option, Some, None, is_none, option_map, option_to_list, slice_get, unwrap_or, refl, sym, ap, subst, ◌∙◌, arith}
 use Rattle.std.proofs.lemmas.Bool.Decides.{nat_tests}
 use Rattle.std.proofs.lemmas.List.Elements.{All-from_recursion}
 use Rattle.std.proofs.lemmas.List.FromFn.{length-map-range_with_len, length-range_with_len, map-range_with_len_more}
@@ -13,7 +13,8 @@ use Rattle.xf_access.specs.declared.stock_rounding.StockRounding.TheVariants.{Sa
 use Rattle.xf_app.proofs.StandardIds.{found-dimension, found-group, free-dimension, free-group}
 use Rattle.xf_app.specs.Board.{int_column}
 use Rattle.xf_app.specs.BoardParts.{IsBoard, IsInt}
-use Rattle.xf_app.specs.Standard.{IsStandard, StockState, column_dimension, column_dimensions, column_group, column_groups, standard_of, standard_to, unfiltered, whole}
+use Rattle.xf_app.specs.Session.{is_of_numbers}
+use Rattle.xf_app.specs.Standard.{IsStandard, StockDimension, StockFilter, StockState, column_dimension, column_dimensions, column_group, column_groups, standard_of, standard_to, whole}
 use Rattle.xf_base.specs.Bounds.{Bounds, standard}
 use Rattle.xf_base.specs.Cell.{cell_bytes, row_bytes}
 use Rattle.xf_base.specs.Form.{key_of_atom}
@@ -25,14 +26,19 @@ use Rattle.xf_base.specs.declared.column.Column.{Column}
 use Rattle.xf_base.specs.declared.column.ColumnKind.{ColumnKind}
 use Rattle.xf_base.specs.declared.column.ColumnKind.TheVariants as kind
 use Rattle.xf_base.specs.declared.key.Key.{Key}
+use Rattle.xf_base.specs.declared.kind.KeyKind.{KeyKind}
 use Rattle.xf_base.specs.declared.kind.KeyKind.TheVariants as key_kind
 use Rattle.xf_base.specs.declared.limits.TheConstants.Limits.{DIMENSIONS, ENTRIES, GROUPS, ROWS, TEXT_BYTES}
-use Rattle.xf_engine.specs.Changes.{ranged, with_dimension, with_group, with_range, with_rows}
-use Rattle.xf_engine.specs.Refusals.{add_refusal_of, dimension_refusal_of, group_refusal_of, table_of, unless_none}
-use Rattle.xf_engine.specs.State.{AreEndsFor, AreEndsOf, IsFreeId, LiveDimension, dimension_ids, dimension_named, entries_by, entry_count, group_ids, group_named, has_id}
+use Rattle.xf_engine.specs.Changes.{refiltered, unfiltered, with_dimension, with_filter, with_group, with_rows}
+use Rattle.xf_engine.specs.Refusals.{add_refusal_of, dimension_refusal_of, filter_refusal_of, group_refusal_of, table_of, wrong_kind}
+use Rattle.xf_engine.specs.State.{IsFreeId, dimension_ids, dimension_named, entries_by, entry_count, group_ids, group_named, has_id}
 use Rattle.xf_engine.specs.declared.add_refusal.AddRefusal.{AddRefusal}
 use Rattle.xf_engine.specs.declared.dimension_refusal.DimensionRefusal.{DimensionRefusal}
+use Rattle.xf_engine.specs.declared.filter_refusal.FilterRefusal.{FilterRefusal}
+use Rattle.xf_engine.specs.declared.filter_refusal.FilterRefusal.TheVariants as filter
 use Rattle.xf_engine.specs.declared.group_refusal.GroupRefusal.{GroupRefusal}
+use Rattle.xf_filter.specs.Filter.{filter_keys, first_other}
+use Rattle.xf_filter.specs.Stock.{stock_keys}
 use Rattle.xf_table.proofs.Refusals.{no_mismatch-from_rows}
 use Rattle.xf_table.specs.Append.{refusal_of}
 use Rattle.xf_table.specs.Table.{text_of_rows}
@@ -47,10 +53,10 @@ fits-column columns place ints within =
     rw (at, int) refl
 
 -- without rows there are no entries
-no-entries : (places : List ℕ) → sum_by (λ (live : LiveDimension StockAccessor). entries_by keys_of_row [] live.accessor) (map column_dimension places) ≡ 0
+no-entries : (places : List ℕ) → sum_by (λ (live : StockDimension). entries_by keys_of_row [] live.accessor) (map column_dimension places) ≡ 0
 no-entries [] = refl
 no-entries (place ∷ places) =
-    omega (arith, sum_by-cons (λ (live : LiveDimension StockAccessor). entries_by keys_of_row [] live.accessor) (column_dimension place) (map column_dimension places), no-entries places)
+    omega (arith, sum_by-cons (λ (live : StockDimension). entries_by keys_of_row [] live.accessor) (column_dimension place) (map column_dimension places), no-entries places)
 
 -- it is added
 pub dimension-taken : (columns : List Column) (place : ℕ) → place < length columns → length columns ≤ DIMENSIONS → dimension_refusal_of keys_of_row (standard_to columns standard place) (ColumnOf place whole) ≡ None
@@ -146,10 +152,10 @@ entries-few place [] = omega arith
 entries-few place (row ∷ rows) =
     omega (arith, sum_by-cons (λ (r : List Cell). length (keys_of_row (ColumnOf place whole) r)) row rows, one-at-most (option_map key_of_atom (atom_of_cell (slice_get row place))), entries-few place rows)
 
-columns-few : (places : List ℕ) (rows : List (List Cell)) → sum_by (λ (live : LiveDimension StockAccessor). entries_by keys_of_row rows live.accessor) (map column_dimension places) ≤ length rows * length places
+columns-few : (places : List ℕ) (rows : List (List Cell)) → sum_by (λ (live : StockDimension). entries_by keys_of_row rows live.accessor) (map column_dimension places) ≤ length rows * length places
 columns-few [] rows = omega arith
 columns-few (place ∷ places) rows =
-    omega (arith, sum_by-cons (λ (live : LiveDimension StockAccessor). entries_by keys_of_row rows live.accessor) (column_dimension place) (map column_dimension places), entries-few place rows, columns-few places rows)
+    omega (arith, sum_by-cons (λ (live : StockDimension). entries_by keys_of_row rows live.accessor) (column_dimension place) (map column_dimension places), entries-few place rows, columns-few places rows)
 
 -- the records of a board are added
 pub rows-taken : (columns : List Column) (rows : List (List Cell)) → IsBoard columns rows → add_refusal_of keys_of_row (standard_of columns standard) rows ≡ None
@@ -179,24 +185,24 @@ pub standard-start : (columns : List Column) (rows : List (List Cell)) → lengt
 standard-start columns rows few = record { few = few; dimensions = unfiltered-new (range_with_len 0 (length columns)); groups = refl }
 
 -- a filter changes no dimension but for it
-unfiltered-ranged : (id : ℕ) (ends : Option (Key × Key)) (lives : List (LiveDimension StockAccessor)) → map unfiltered (map (ranged id ends) lives) ≡ map unfiltered lives
-unfiltered-ranged id ends [] = refl
-unfiltered-ranged id ends (live ∷ lives) =
-    let first : unfiltered (ranged id ends live) ≡ unfiltered live =
-    elim (live.id == id) as (λ b. unfiltered (cond b (record live { range = ends }) live) ≡ unfiltered live) [ true ↦ refl | false ↦ refl ] in
-    ap (λ own. own ∷ map unfiltered (map (ranged id ends) lives)) first ∙ ap (λ later. unfiltered live ∷ later) (unfiltered-ranged id ends lives)
+unfiltered-refiltered : (id : ℕ) (new : StockFilter) (lives : List StockDimension) → map unfiltered (map (refiltered id new) lives) ≡ map unfiltered lives
+unfiltered-refiltered id new [] = refl
+unfiltered-refiltered id new (live ∷ lives) =
+    let first : unfiltered (refiltered id new live) ≡ unfiltered live =
+    elim (live.id == id) as (λ b. unfiltered (cond b (record live { filter = new }) live) ≡ unfiltered live) [ true ↦ refl | false ↦ refl ] in
+    ap (λ own. own ∷ map unfiltered (map (refiltered id new) lives)) first ∙ ap (λ later. unfiltered live ∷ later) (unfiltered-refiltered id new lives)
 
 -- and so it stays standard
-pub standard-ranged : (state : StockState) (id : ℕ) (ends : Option (Key × Key)) → IsStandard state → IsStandard (with_range state id ends)
-standard-ranged state id ends is = record { few = is.few; dimensions = unfiltered-ranged id ends state.dimensions ∙ is.dimensions; groups = is.groups }
+pub standard-filtered : (state : StockState) (id : ℕ) (new : StockFilter) → IsStandard state → IsStandard (with_filter state id new)
+standard-filtered state id new is = record { few = is.few; dimensions = unfiltered-refiltered id new state.dimensions ∙ is.dimensions; groups = is.groups }
 
 -- a dimension that is found without its filter
-record FoundAs (id : ℕ) (lives : List (LiveDimension StockAccessor)) (plain : LiveDimension StockAccessor) : Type 0 where
-  live : LiveDimension StockAccessor
+record FoundAs (id : ℕ) (lives : List StockDimension) (plain : StockDimension) : Type 0 where
+  live : StockDimension
   found : find (has_id id) lives ≡ Some live
   same : unfiltered live ≡ plain
 
-found-unfiltered : (id : ℕ) (lives : List (LiveDimension StockAccessor)) (plain : LiveDimension StockAccessor) → find (has_id id) (map unfiltered lives) ≡ Some plain → FoundAs id lives plain
+found-unfiltered : (id : ℕ) (lives : List StockDimension) (plain : StockDimension) → find (has_id id) (map unfiltered lives) ≡ Some plain → FoundAs id lives plain
 found-unfiltered id [] plain found = absurd cc
 found-unfiltered id (live ∷ lives) plain found = go (λ told. found-unfiltered id lives plain told) (live.id == id) refl found
   where
@@ -211,23 +217,47 @@ dimension-at : (state : StockState) (place : ℕ) → IsStandard state → place
 dimension-at state place is within =
     found-unfiltered place state.dimensions (column_dimension place) (ap (find (has_id place)) is.dimensions ∙ found-dimension (length state.columns) place within)
 
--- numbers fit as the ends of a range on it
-pub numbers-fit : (state : StockState) (place : ℕ) (ends : Option (Key × Key)) → IsStandard state → place < length state.columns → AreEndsOf key_kind.Num ends → AreEndsFor (λ accessor. kind_of_key_form (form_of accessor)) state place ends
-numbers-fit state place ends is within numbers =
+-- a filter is refused on it for a key that is no number, and for nothing else
+refusal-at : (state : StockState) (place : ℕ) (new : StockFilter) → IsStandard state → place < length state.columns
+    → filter_refusal_of (λ accessor. kind_of_key_form (form_of accessor)) stock_keys state place new ≡ wrong_kind key_kind.Num (first_other key_kind.Num (filter_keys stock_keys new))
+refusal-at state place new is within =
     let at = dimension-at state place is within in
-    let own : ColumnOf place whole ≡ at.live.accessor = ap (λ (live : LiveDimension StockAccessor). live.accessor) (sym at.same) in
-    rw at.found (subst (λ accessor. AreEndsOf (kind_of_key_form (form_of accessor)) ends) own numbers)
+    let own : at.live.accessor ≡ ColumnOf place whole = ap (λ (live : StockDimension). live.accessor) at.same in
+    rw (at.found, own) refl
 
--- an answer about a dimension that is found is no error
-pub answer-found : {X E : Type 0} (state : StockState) (place : ℕ) (answer : LiveDimension StockAccessor → X) (error other : E) → IsStandard state → place < length state.columns → ◌≡◌ {A = Result X E} (Err other) (unless_none error (option_map answer (dimension_named state place))) → ⊥
-answer-found state place answer error other is within told =
-    let at = dimension-at state place is within in
-    cc (rw at.found at told)
+kind-alone : (wanted : KeyKind) (given : Option KeyKind) (id : ℕ) → wrong_kind wanted given ≡ Some (filter.NoDimension id) → ⊥
+kind-alone wanted None id told = absurd cc
+kind-alone wanted (Some kind) id told = absurd cc
+
+kind-fits : (wanted : KeyKind) (given : Option KeyKind) → wrong_kind wanted given ≡ None → is_none given ≡ true
+kind-fits wanted None told = refl
+kind-fits wanted (Some kind) told = absurd cc
+
+kind-misfits : (wanted : KeyKind) (given : Option KeyKind) (cause : FilterRefusal) → wrong_kind wanted given ≡ Some cause → is_none given ≡ false
+kind-misfits wanted None cause told = absurd cc
+kind-misfits wanted (Some kind) cause told = refl
+
+-- so the dimension is there
+pub dimension-found : (state : StockState) (place id : ℕ) (new : StockFilter) → IsStandard state → place < length state.columns
+    → filter_refusal_of (λ accessor. kind_of_key_form (form_of accessor)) stock_keys state place new ≡ Some (filter.NoDimension id) → ⊥
+dimension-found state place id new is within told =
+    kind-alone key_kind.Num (first_other key_kind.Num (filter_keys stock_keys new)) id (sym (refusal-at state place new is within) ∙ told)
+
+-- and what is not refused is of numbers, and what is refused is not
+pub filter-fits : (state : StockState) (place : ℕ) (new : StockFilter) → IsStandard state → place < length state.columns
+    → filter_refusal_of (λ accessor. kind_of_key_form (form_of accessor)) stock_keys state place new ≡ None → is_of_numbers new ≡ true
+filter-fits state place new is within told =
+    kind-fits key_kind.Num (first_other key_kind.Num (filter_keys stock_keys new)) (sym (refusal-at state place new is within) ∙ told)
+
+pub filter-misfits : (state : StockState) (place : ℕ) (new : StockFilter) (cause : FilterRefusal) → IsStandard state → place < length state.columns
+    → filter_refusal_of (λ accessor. kind_of_key_form (form_of accessor)) stock_keys state place new ≡ Some cause → is_of_numbers new ≡ false
+filter-misfits state place new cause is within told =
+    kind-misfits key_kind.Num (first_other key_kind.Num (filter_keys stock_keys new)) cause (sym (refusal-at state place new is within) ∙ told)
 
 -- an answer is what was told of it
-pub answer-told : {E : Type 0} (count : ℕ) (error : E) (told : Option ℕ) → ◌≡◌ {A = Result ℕ E} (Ok count) (unless_none error told) → count ≡ unwrap_or told 0
-answer-told count error None same = absurd cc
-answer-told count error (Some own) same = cc same
+pub answer-told : (count : ℕ) (told : Option ℕ) → Some count ≡ told → count ≡ unwrap_or told 0
+answer-told count None same = absurd cc
+answer-told count (Some own) same = cc same
 
 -- each column's group is found by its place
 pub group-at : (state : StockState) (place : ℕ) → IsStandard state → place < length state.columns → group_named state place ≡ Some (column_group place)

@@ -10,6 +10,7 @@ use Rattle.xf_base.specs.Word.{word_text}
 use Rattle.xf_base.specs.declared.column.Column.{Column}
 use Rattle.xf_engine.specs.Answers.{entries_of, passing_count, whole_count}
 use Rattle.xf_engine.specs.declared.key_number.KeyNumber.{KeyNumber}
+use Rattle.xf_filter.specs.Stock.{stock_says}
 
 -- two blanks, the key as a word, a blank, its number
 abbrev pub entry_line : KeyNumber → List ℕ
@@ -22,7 +23,7 @@ group_lines name entries =
 
 -- the entries of the group of an id; there are none where there is no such group
 abbrev pub group_entries : StockState → ℕ → List KeyNumber
-group_entries state id = unwrap_or (entries_of keys_of_row rounded_key state id) []
+group_entries state id = unwrap_or (entries_of keys_of_row stock_says rounded_key state id) []
 
 -- the group of each of these columns, whose ids are the columns' places
 abbrev pub groups_lines : StockState → List (ℕ × Column) → List ℕ
@@ -31,8 +32,8 @@ groups_lines state placed = flat_map (λ (at : ℕ × Column). group_lines at.1.
 -- the counts of a state: its records, those that pass, and the whole `all`, which counts
 abbrev pub counts_lines : StockState → List ℕ
 counts_lines state =
-    codes "records " ++ decimal (length state.rows) ++ codes " passing " ++ decimal (passing_count keys_of_row state)
-    ++ codes "\nwhole all " ++ decimal (whole_count keys_of_row state) ++ 10 ∷ []
+    codes "records " ++ decimal (length state.rows) ++ codes " passing " ++ decimal (passing_count keys_of_row stock_says state)
+    ++ codes "\nwhole all " ++ decimal (whole_count keys_of_row stock_says state) ++ 10 ∷ []
 
 -- the counts of a state, and then the group of each column
 abbrev pub data_view : StockState → List ℕ

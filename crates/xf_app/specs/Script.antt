@@ -1,16 +1,12 @@
 -- What a line of a session says.
-use Rattle.std.specs.Prelude.{ℕ, ◌==◌, nat_lt, nat_le, Bool, false, ◌&&◌, ◌||◌, not, if◌then◌else◌, codes, List, [], ◌∷◌, length, filter, Result, Ok, Err, ℤ}
+use Rattle.std.specs.Prelude.{ℕ, ◌==◌, nat_lt, nat_le, Bool, false, ◌&&◌, ◌||◌, not, if◌then◌else◌, codes, List, [], ◌∷◌, length, filter}
 use Rattle.std.specs.List.{list_all, slice_split}
 use Rattle.std.specs.Str.{bytes_eq}
 use Rattle.std.specs.Str.Lines.{lines}
 use Rattle.csv.specs.Reading.{strip_bom}
 use Rattle.xf_app.specs.declared.script.Command.{Command}
 use Rattle.xf_app.specs.declared.script.Command.TheVariants.{Skip, Unknown, Filter, Clear}
-use Rattle.xf_app.specs.declared.script.RangeEnds.{RangeEnds}
-use Rattle.xf_app.specs.declared.script.RangeEnds.TheVariants.{Numbers, NotNumbers}
-use Rattle.xf_base.specs.Fixed.{number_of}
 use Rattle.xf_base.specs.declared.limits.TheConstants.Limits.{LINE_BYTES}
-use Rattle.xf_base.specs.declared.fixed.NumberRefusal.{NumberRefusal}
 
 -- the lines of a session: one byte order mark in front is dropped, the rest is cut at each line feed, a carriage return
 -- before one is dropped, and bytes after the last are a line
@@ -29,13 +25,6 @@ words_of line = filter (λ word. not (length word == 0)) (slice_split is_space l
 abbrev pub is_readable_line : List ℕ → Bool
 is_readable_line line = nat_le (length line) LINE_BYTES && list_all (λ byte. nat_lt byte 128 && not (byte == 34)) line
 
--- the ends that two words say, by what they are as whole numbers
-abbrev pub ends_of : Result ℤ NumberRefusal → Result ℤ NumberRefusal → RangeEnds
-ends_of (Ok low) (Ok high) = Numbers low high
-ends_of (Ok low) (Err refusal) = NotNumbers
-ends_of (Err refusal) (Ok high) = NotNumbers
-ends_of (Err refusal) (Err other) = NotNumbers
-
 -- two words take a filter away where the first is `clear`
 abbrev pub clear_of_words : List ℕ → List ℕ → Command
 clear_of_words verb dimension = if bytes_eq verb (codes "clear") then Clear dimension else Unknown
@@ -43,7 +32,7 @@ clear_of_words verb dimension = if bytes_eq verb (codes "clear") then Clear dime
 -- five words set a filter where the first and the third are `filter` and `range`
 abbrev pub filter_of_words : List ℕ → List ℕ → List ℕ → List ℕ → List ℕ → Command
 filter_of_words verb dimension kind low high =
-    if bytes_eq verb (codes "filter") && bytes_eq kind (codes "range") then Filter dimension (ends_of (number_of low 0) (number_of high 0)) else Unknown
+    if bytes_eq verb (codes "filter") && bytes_eq kind (codes "range") then Filter dimension low high else Unknown
 
 abbrev pub command_of_words : List (List ℕ) → Command
 command_of_words [] = Skip

@@ -1,14 +1,15 @@
 //! The data view of a standard crossfilter: its counts, the whole `all`, and the group of each column.
 ghost use Rattle.std.specs.Prelude.{◌≡◌, ◌++◌, OnOk};
 ghost use Rattle.xf_app.specs.Page.{counts_lines, data_view, entry_line, group_lines};
+ghost use Rattle.xf_app.specs.Standard.{whole};
 ghost use Rattle.xf_base.specs.Fixed.{fixed_text};
 ghost use Rattle.xf_base.specs.Form.{key_text};
 ghost use Rattle.xf_base.specs.Word.{word_text};
 
-use crate::standard::{StandardCross, StockCross};
+use crate::standard::{StandardCross, StockCross, WHOLE};
 use std::alloc::Global;
 use std::sync::ledger::Ledger;
-use xf_base::{AtomForm, Key, KeyForm, OutOfMemory, Steps, put_fixed, put_number, put_word};
+use xf_base::{Key, OutOfMemory, Steps, put_fixed, put_number, put_word};
 use xf_engine::KeyNumber;
 
 /// Appends the data view: `records SIZE passing COUNT`, `whole all COUNT`, and for each column `group NAME KEYS` with
@@ -88,13 +89,13 @@ fn put_entry(alloc: Global, out: &mut Vec<u8>, entry: &KeyNumber) -> Result<(), 
 
 /// Appends a key of whole numbers as a word. A number needs no quotes, and so no text of its own.
 fn put_key(alloc: Global, out: &mut Vec<u8>, key: &Key) -> Result<(), OutOfMemory>
-    ensures ok { OnOk result (out.new.items ≡ out.old.items ++ word_text (key_text (KeyForm.One (AtomForm.Fixed 0)) key.now)) }
+    ensures ok { OnOk result (out.new.items ≡ out.old.items ++ word_text (key_text whole key.now)) }
 {
     if let Key::Num(number) = key {
         return put_whole(out, *number);
     }
     let mut text = Vec::new(alloc);
-    xf_base::put_key(&mut text, &KeyForm::One(AtomForm::Fixed(0)), key)?;
+    xf_base::put_key(&mut text, &WHOLE, key)?;
     put_word(out, text.as_slice())
 }
 

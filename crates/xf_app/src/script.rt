@@ -4,11 +4,10 @@ ghost use Rattle.std.specs.List.{AllByRecursion};
 ghost use Rattle.std.specs.Str.{IsAscii};
 ghost use Rattle.std.specs.Str.Lines.{lines, strip_carriage_return};
 ghost use Rattle.csv.specs.Reading.{strip_bom};
-ghost use Rattle.xf_app.specs.Script.{clear_of_words, command_of, command_of_words, ends_of, filter_of_words, is_readable_line, words_of};
-ghost use Rattle.xf_base.specs.Fixed.{number_of};
+ghost use Rattle.xf_app.specs.Script.{clear_of_words, command_of, command_of_words, filter_of_words, is_readable_line, words_of};
 
 use std::alloc::Global;
-use xf_base::{Limits, OutOfMemory, Text, read_fixed};
+use xf_base::{Limits, OutOfMemory, Text};
 
 /// What a line says.
 #[derive(Debug, Drop)]
@@ -17,19 +16,16 @@ pub enum Command {
     Skip,
     /// Nothing that is known.
     Unknown,
-    /// `filter DIMENSION range LOW HIGH`.
-    Filter { dimension: Text, ends: RangeEnds },
+    /// `filter DIMENSION range LOW HIGH`. The ends are words until the kind of the dimension is known.
+    Filter {
+        dimension: Text,
+        low: Text,
+        high: Text,
+    },
     /// `clear DIMENSION`.
-    Clear { dimension: Text },
-}
-
-/// The ends of a range, as its two words say them.
-#[derive(Clone, Copy, Debug, PartialEq, Eq)]
-pub enum RangeEnds {
-    /// From `low` on and below `high`.
-    Numbers { low: i64, high: i64 },
-    /// One of the words at least is no whole number.
-    NotNumbers,
+    Clear {
+        dimension: Text,
+    },
 }
 
 /// A session's bytes after one byte order mark, if it has one.
@@ -133,15 +129,19 @@ fn filter_of_words(
     low: &[u8],
     high: &[u8],
 ) -> Result<Command, OutOfMemory>
-    requires { IsAscii dimension.now }
+    requires dimension { IsAscii dimension.now }
+    requires low { IsAscii low.now }
+    requires high { IsAscii high.now }
     ensures { IfOk result (λ command. command ≡ filter_of_words verb.now dimension.now kind.now low.now high.now) }
 {
     if verb != b"filter".as_slice() || kind != b"range".as_slice() {
         return Ok(Command::Unknown);
     }
-    let dimension = text_of_word(alloc, dimension)?;
-    let ends = ends_of(low, high);
-    Ok(Command::Filter { dimension, ends })
+    Ok(Command::Filter {
+        dimension: text_of_word(alloc, dimension)?,
+        low: text_of_word(alloc, low)?,
+        high: text_of_word(alloc, high)?,
+    })
 }
 
 /// A word of ASCII as a text.
@@ -152,15 +152,5 @@ fn text_of_word(alloc: Global, word: &[u8]) -> Result<Text, OutOfMemory>
     match str::from_utf8(word) {
         Ok(word) => Text::of(alloc, word),
         Err(_) => unreachable!(),
-    }
-}
-
-/// The ends of a range, from one word on and below another.
-fn ends_of(low: &[u8], high: &[u8]) -> RangeEnds
-    ensures { result ≡ ends_of (number_of low.now 0) (number_of high.now 0) }
-{
-    match (read_fixed(low, 0), read_fixed(high, 0)) {
-        (Ok(low), Ok(high)) => RangeEnds::Numbers { low, high },
-        _ => RangeEnds::NotNumbers,
     }
 }

@@ -1,13 +1,14 @@
 //! A line of a session, done on a standard crossfilter, and its answer.
 ghost use Rattle.std.specs.Prelude.{◌≡◌, ◌<◌, [], ◌∷◌, ◌++◌, IfOk, IfSome, OnErr, OnOk, codes, decimal, length};
-ghost use Rattle.xf_app.specs.Session.{clear_outcome, command, filter_outcome, id_of_name, refusal_words, reply_outcome, reply_text};
+ghost use Rattle.xf_app.specs.Session.{command, filter_outcome, id_of_name, range_of, refusal_words, reply_outcome, reply_text};
 ghost use Rattle.xf_model.specs.Replay.{state_after};
 
-use crate::script::{Command, RangeEnds, read_command};
-use crate::standard::StandardCross;
+use crate::script::{Command, read_command};
+use crate::standard::{StandardCross, StockFilter, WHOLE};
 use std::alloc::Global;
 use std::sync::ledger::Ledger;
-use xf_base::{Key, OutOfMemory, Steps, Text, put_number, put_word};
+use xf_base::{OutOfMemory, Steps, Text, key_of_word, put_number, put_word};
+use xf_filter::Filter;
 
 /// Why a line is refused. A refused line changes nothing.
 #[derive(Debug, Drop)]
@@ -44,40 +45,42 @@ pub fn apply<L: Ledger>(
     Ok(match read_command(alloc, line)? {
         Command::Skip => Reply::Skipped,
         Command::Unknown => Reply::Refused(Refusal::UnknownVerb),
-        Command::Filter { dimension, ends } => filter(cross, dimension, ends, steps),
-        Command::Clear { dimension } => clear(cross, dimension, steps),
+        Command::Filter {
+            dimension,
+            low,
+            high,
+        } => filter(cross, dimension, range_of(alloc, &low, &high)?, steps),
+        Command::Clear { dimension } => filter(cross, dimension, Filter::All, steps),
     })
 }
 
-/// Sets a range on the dimension of a name.
+/// Sets a filter on the dimension of a name.
 fn filter<L: Ledger>(
     cross: &mut StandardCross,
     name: Text,
-    ends: RangeEnds,
+    new: StockFilter,
     steps: &mut Steps<L>,
 ) -> Reply
-    ensures answer { reply_outcome result cross.new ≡ filter_outcome cross.old name ends (id_of_name cross.old name) }
-    ensures state { cross.new ≡ state_after cross.old (filter_outcome cross.old name ends (id_of_name cross.old name)) }
+    ensures answer { reply_outcome result cross.new ≡ filter_outcome cross.old name new (id_of_name cross.old name) }
+    ensures state { cross.new ≡ state_after cross.old (filter_outcome cross.old name new (id_of_name cross.old name)) }
 {
-    match (place_of(cross, &name), ends) {
-        (None, _) => Reply::Refused(Refusal::NoDimension { name }),
-        (Some(_), RangeEnds::NotNumbers) => Reply::Refused(Refusal::WrongKind),
-        (Some(place), RangeEnds::Numbers { low, high }) => {
-            let range = Some((Key::Num(low), Key::Num(high)));
-            Reply::Moved(cross.set_filter(place, range, steps))
-        }
+    let Some(place) = place_of(cross, &name) else {
+        return Reply::Refused(Refusal::NoDimension { name });
+    };
+    match cross.set_filter(place, new, steps) {
+        Some(moved) => Reply::Moved(moved),
+        None => Reply::Refused(Refusal::WrongKind),
     }
 }
 
-/// Takes the filter of the dimension of a name away.
-fn clear<L: Ledger>(cross: &mut StandardCross, name: Text, steps: &mut Steps<L>) -> Reply
-    ensures answer { reply_outcome result cross.new ≡ clear_outcome cross.old name (id_of_name cross.old name) }
-    ensures state { cross.new ≡ state_after cross.old (clear_outcome cross.old name (id_of_name cross.old name)) }
+/// The range from one word on and below another, each read as a whole number where it is one.
+fn range_of(alloc: Global, low: &Text, high: &Text) -> Result<StockFilter, OutOfMemory>
+    ensures { IfOk result (λ range. range ≡ range_of low.now high.now) }
 {
-    match place_of(cross, &name) {
-        None => Reply::Refused(Refusal::NoDimension { name }),
-        Some(place) => Reply::Moved(cross.set_filter(place, None, steps)),
-    }
+    Ok(Filter::Range(
+        key_of_word(alloc, &WHOLE, low)?,
+        key_of_word(alloc, &WHOLE, high)?,
+    ))
 }
 
 /// The place of the column of a name, which is the id of its dimension.

@@ -1,32 +1,38 @@
 //! The standard crossfilter of a board: a dimension of each column, in order, and a group of each dimension. Their ids
 //! are the column's place.
-ghost use Rattle.std.specs.Prelude.{◌≡◌, ◌≤◌, ◌<◌, ◌+◌, IfOk, OnOk, Some, length};
+ghost use Rattle.std.specs.Prelude.{◌≡◌, ◌≤◌, ◌<◌, ◌+◌, IfOk, IfNone, IfSome, OnOk, OnSome, Some, false, length, true};
 ghost use Rattle.std.specs.List.{AllByRecursion};
 ghost use Rattle.xf_access.specs.Round.{rounded_key};
 ghost use Rattle.xf_access.specs.Stock.{keys_of_row};
 ghost use Rattle.xf_app.specs.BoardParts.{IsInt};
 ghost use Rattle.xf_app.specs.Due.{start_of};
-ghost use Rattle.xf_app.specs.Session.{moved_at};
+ghost use Rattle.xf_app.specs.Session.{is_of_numbers, moved_at};
 ghost use Rattle.xf_app.specs.Standard.{standard_of, standard_to};
 ghost use Rattle.xf_base.specs.Bounds.{standard};
-ghost use Rattle.xf_base.specs.declared.kind.KeyKind.TheVariants as kind;
 ghost use Rattle.xf_engine.specs.Answers.{entries_of};
-ghost use Rattle.xf_engine.specs.Changes.{with_range};
-ghost use Rattle.xf_engine.specs.State.{AreEndsOf};
+ghost use Rattle.xf_engine.specs.Changes.{with_filter};
+ghost use Rattle.xf_filter.specs.Stock.{stock_says};
 
 use crate::board::Board;
 use std::alloc::Global;
 use std::marker::Model;
 use std::sync::ledger::Ledger;
 use xf_access::{StockAccessor, StockRounding};
-use xf_base::{AtomForm, Key, KeyForm, Limits, OutOfMemory, Steps};
+use xf_base::{AtomForm, KeyForm, Limits, OutOfMemory, Steps};
 use xf_engine::{
-    AddRefusal, Cross, DimensionId, DimensionRefusal, GroupId, GroupListRefusal, GroupRefusal,
-    KeyNumber, NoDimension,
+    AddRefusal, Cross, DimensionId, DimensionRefusal, FilterRefusal, GroupId, GroupListRefusal,
+    GroupRefusal, KeyNumber,
 };
+use xf_filter::{Filter, StockPredicate};
 
-/// A crossfilter over the stock of accessors and roundings.
-pub type StockCross = Cross<StockAccessor, StockRounding>;
+/// A crossfilter over the stock of accessors, roundings and predicates.
+pub type StockCross = Cross<StockAccessor, StockRounding, StockPredicate>;
+
+/// A filter whose predicates are those of the stock.
+pub type StockFilter = Filter<StockPredicate>;
+
+/// How the keys of a standard crossfilter are written: as whole numbers.
+pub const WHOLE: KeyForm = KeyForm::One(AtomForm::Fixed(0));
 
 /// A crossfilter whose dimensions and groups are those of its columns.
 #[derive(Drop)]
@@ -35,9 +41,13 @@ pub struct StandardCross {
 }
 
 impl Model for StandardCross {
+    ghost use Rattle.std.specs.Coded.{codes};
     ghost use Rattle.xf_app.specs.Standard.{IsStandard, StockState};
+    ghost use Rattle.xf_filter.specs.contracts.stock_predicate.StockPredicate as e;
 
     ghost Value = { StockState };
+
+    ghost coded = { Prim.hlevel (codes, e.the_row.coded) };
 
     ghost view = { λ standard. standard.cross };
 
@@ -71,25 +81,28 @@ impl StandardCross {
         &self.cross
     }
 
-    /// Sets a range, or no filter, on the dimension of the column at a place, in place of what was set. Gives how many
-    /// records that moves.
+    /// Sets a filter on the dimension of the column at a place, in place of what was set. Gives how many records that
+    /// moves, and None where a key of the filter is no number, which changes nothing.
     pub fn set_filter<L: Ledger>(
         &mut self,
         place: usize,
-        range: Option<(Key, Key)>,
+        filter: StockFilter,
         steps: &mut Steps<L>,
-    ) -> u64
-        requires within { place < length self.old.columns }
-        requires numbers { AreEndsOf kind.Num range }
-        ensures moved { result ≡ moved_at self.old place range }
-        ensures filter { self.new ≡ with_range self.old place range }
+    ) -> Option<u64>
+        requires { place < length self.old.columns }
+        ensures moved { IfSome result (λ moved. moved ≡ moved_at self.old place filter) }
+        ensures filter { OnSome result (self.new ≡ with_filter self.old place filter) }
+        ensures fits { OnSome result (is_of_numbers filter ≡ true) }
+        ensures misfits { IfNone result (is_of_numbers filter ≡ false) }
+        ensures same { IfNone result (self.new ≡ self.old) }
     {
         match self
             .cross
-            .set_filter(DimensionId(place as u32), range, steps)
+            .set_filter(DimensionId(place as u32), filter, steps)
         {
-            Ok(moved) => moved,
-            Err(NoDimension { .. }) => unreachable!(),
+            Ok(moved) => Some(moved),
+            Err(FilterRefusal::WrongKind { .. }) => None,
+            Err(FilterRefusal::NoDimension { .. }) => unreachable!(),
         }
     }
 
@@ -100,7 +113,7 @@ impl StandardCross {
         steps: &mut Steps<L>,
     ) -> Result<Vec<KeyNumber>, OutOfMemory>
         requires { place < length self.now.columns }
-        ensures { IfOk result (λ entries. entries_of keys_of_row rounded_key self.now place ≡ Some entries.items) }
+        ensures { IfOk result (λ entries. entries_of keys_of_row stock_says rounded_key self.now place ≡ Some entries.items) }
     {
         match self.cross.group_all(GroupId(place as u32), steps) {
             Ok(entries) => Ok(entries),
@@ -135,7 +148,7 @@ fn add_column<L: Ledger>(
     requires ints { AllByRecursion IsInt cross.old.columns }
     ensures { OnOk result (cross.new ≡ standard_to cross.old.columns standard (place + 1)) }
 {
-    let accessor = StockAccessor::Column(place, KeyForm::One(AtomForm::Fixed(0)));
+    let accessor = StockAccessor::Column(place, WHOLE);
     let dimension = match cross.add_dimension(accessor, steps) {
         Ok(dimension) => dimension,
         Err(DimensionRefusal::OutOfMemory) => return Err(OutOfMemory),
