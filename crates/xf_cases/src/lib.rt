@@ -1,4 +1,4 @@
-//! What no clause of the crates up to the engine says: worked values, written by hand and from outside.
+//! What no clause of the crates of values, files and tables says: worked values, written by hand and from outside.
 //!
 //! It stands on these crates, and has nothing but tests. They are not in the crates themselves, since a crate that has
 //! tests is proved once more with them. Its one promise: each public call of these crates is made here, and gives what
@@ -6,11 +6,7 @@
 #![tactic(auto)]
 
 #[cfg(test)]
-mod access;
-#[cfg(test)]
 mod base;
-#[cfg(test)]
-mod engine;
 #[cfg(test)]
 mod load;
 #[cfg(test)]

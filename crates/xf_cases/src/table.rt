@@ -1,6 +1,7 @@
-//! A table of names with numbers: what it holds, in order, how many bytes of text, and what it refuses.
+//! A table of names with numbers: what it holds, in order, how many bytes of text, what it refuses and what it keeps.
 ghost use Rattle.std.specs.Prelude.{◌≡◌, ◌<◌};
 
+use crate::base::gone::gone_of;
 use std::alloc::Global;
 use std::marker::Brand;
 use std::process::Abort;
@@ -158,4 +159,59 @@ fn refusals(rt: HostRuntime) -> Result<(), Fail> {
         );
     }
     Ok(())
+}
+
+/// Which of three records are removed, then which of those that stay, the names of those that are left, and their bytes.
+static KEPT: [(&[bool], &[bool], &[&str], u64); 5] = [
+    (
+        &[false, false, false],
+        &[false, false, false],
+        &["ab", "", "def"],
+        5,
+    ),
+    (&[true, true, true], &[], &[], 0),
+    (&[true, false, false], &[true, false], &["def"], 3),
+    (&[false, false, true], &[false, true], &["ab"], 2),
+    (&[false, true, false], &[false, false], &["ab", "def"], 5),
+];
+
+fn keep(rt: &impl Abort, alloc: Global, table: &mut Table, marks: &[bool]) -> Result<(), Fail> {
+    let gone = gone_of(alloc, marks)?;
+    assert!(rt; gone.len() == table.len());
+    table.retain(&gone);
+    Ok(())
+}
+
+/// Says whether these are the names of rows.
+fn has_names(rows: &RowList, names: &[&str]) -> bool {
+    for (row, name) in rows.as_slice().iter().zip(names) {
+        match row.at(0) {
+            Some(Cell::Text(own)) if own.as_str() == *name => {}
+            _ => return false,
+        }
+    }
+    rows.len() == names.len()
+}
+
+fn see_kept<L: Ledger>(rt: &impl Abort, alloc: Global, blank: Blank) -> Result<(), Fail>
+    requires name { blank.name ≡ L.name }
+    requires parts { blank.parts ≡ L.parts }
+    requires some { 0 < blank.parts }
+{
+    let mut steps = Steps::<L>::new(blank);
+    for (first, second, names, bytes) in &KEPT {
+        let mut table = Table::new(alloc, name_and_number(alloc)?, Limits::standard());
+        table
+            .append(rows_of(alloc, &[("ab", 1), ("", 2), ("def", 3)])?)
+            .expect(rt, "three records");
+        keep(rt, alloc, &mut table, first)?;
+        keep(rt, alloc, &mut table, second)?;
+        assert!(rt; has_names(table.rows(&mut steps), names) && table.text() == *bytes);
+    }
+    Ok(())
+}
+
+#[test]
+fn keeps_rows(rt: HostRuntime) -> Result<(), Fail> {
+    see_kept::<Brand>(&rt, rt.alloc(), Blank::new(1))
 }

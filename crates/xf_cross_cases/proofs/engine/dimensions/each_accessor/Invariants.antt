@@ -1,4 +1,4 @@
-use Rattle.xf_cases.proofs.engine.each_accessor.Given as goal
+use Rattle.xf_cross_cases.proofs.engine.dimensions.each_accessor.Given as goal
 
 -- the example counts its steps in the ledger of its blank
 abbrev pub ghosts-see_dimensions : goal.ghosts-see_dimensions

@@ -1,82 +1,18 @@
-//! A crossfilter over each accessor of the stock: what passes, what groups count, and which records
-//! have the least and the greatest keys.
+//! A crossfilter over each accessor of the stock: what groups count, and which records have the least and the greatest
+//! keys.
 ghost use Rattle.std.specs.Prelude.{◌≡◌, ◌<◌};
 
 use crate::access::accessors::a_schema;
+use crate::engine::{RECORDS, StockCross, flights, rows_of, see_entries};
+use crate::told::{TEXT, TEXT_AND_CENTS, Told, WHOLE};
 use std::alloc::Global;
 use std::marker::Brand;
 use std::process::Abort;
 use std::sync::ledger::{Blank, Ledger};
 use std::test::Fail;
 use xf_access::{Accessor, StockAccessor, StockRounding};
-use xf_base::{
-    Atom, AtomForm, Cell, Key, KeyForm, Limits, OutOfMemory, Row, RowList, Steps, Text, TextList,
-};
-use xf_engine::{Cross, KeyNumber};
-
-const WHOLE: KeyForm = KeyForm::One(AtomForm::Fixed(0));
-
-const TEXT: KeyForm = KeyForm::One(AtomForm::Text);
-
-const TEXT_AND_CENTS: KeyForm = KeyForm::Pair(AtomForm::Text, AtomForm::Fixed(2));
-
-/// A key as a table has it.
-enum Told {
-    Num(i64),
-    Text(&'static str),
-    Pair(&'static str, i64),
-}
-
-fn key_of(alloc: Global, told: &Told) -> Result<Key, OutOfMemory> {
-    Ok(match told {
-        Told::Num(number) => Key::Num(*number),
-        Told::Text(text) => Key::Text(Text::of(alloc, text)?),
-        Told::Pair(text, number) => {
-            Key::Pair(Atom::Text(Text::of(alloc, text)?), Atom::Num(*number))
-        }
-    })
-}
-
-/// Compares entries with those that a table has.
-fn see_entries(
-    rt: &impl Abort,
-    alloc: Global,
-    found: &[KeyNumber],
-    want: &[(Told, i128)],
-) -> Result<(), Fail> {
-    assert_eq!(rt; found.len(), want.len());
-    for (entry, (key, number)) in found.iter().zip(want) {
-        let key = key_of(alloc, key)?;
-        assert!(rt; entry.key == key && entry.number == *number);
-    }
-    Ok(())
-}
-
-/// A text, a whole number, cents, a day and tags.
-static RECORDS: [(&str, i64, i64, i64, &[&str]); 4] = [
-    ("ab", -5, 100, 0, &["a", "b"]),
-    ("b", 0, 200, -1, &[]),
-    ("ac", 7, 100, 3, &["ab", "ac", "b"]),
-    ("b", 7, 300, 31, &["c"]),
-];
-
-fn records(alloc: Global) -> Result<RowList, OutOfMemory> {
-    let mut rows = RowList::new(alloc);
-    for (text, number, cents, day, tags) in &RECORDS {
-        let mut list = TextList::new(alloc);
-        for tag in *tags {
-            list.push(Text::of(alloc, tag)?)?;
-        }
-        let mut row = Row::new(alloc);
-        row.push(Cell::Text(Text::of(alloc, text)?))?;
-        row.push(Cell::Num(*number))?;
-        row.push(Cell::Num(*cents))?;
-        row.push(Cell::Num(*day))?;
-        row.push(Cell::Tags(list))?;
-        rows.push(row)?;
-    }
-    Ok(rows)
-}
+use xf_base::{Limits, Steps};
+use xf_engine::{Cross, DimensionId};
 
 /// A dimension, how its group rounds, the group's entries, the records from the least key on, and of those from the
 /// greatest key on the second and the third.
@@ -146,8 +82,8 @@ fn see_dimensions<L: Ledger>(rt: &impl Abort, alloc: Global, blank: Blank) -> Re
     requires some { 0 < blank.parts }
 {
     let mut steps = Steps::<L>::new(blank);
-    let mut cross = Cross::new(alloc, a_schema(alloc)?, Limits::standard());
-    assert!(rt; cross.add_records(records(alloc)?, &mut steps) == Ok(()));
+    let mut cross: StockCross = Cross::new(alloc, a_schema(alloc)?, Limits::standard());
+    assert!(rt; cross.add_records(rows_of(alloc, &RECORDS)?, &mut steps) == Ok(()));
     assert!(rt; cross.is_sound() && cross.size() == 4);
     for (accessor, rounding, entries, least, greatest) in &DIMENSIONS {
         assert!(rt; accessor.fits(cross.schema()));
@@ -171,4 +107,34 @@ fn see_dimensions<L: Ledger>(rt: &impl Abort, alloc: Global, blank: Blank) -> Re
 #[test]
 fn each_accessor(rt: HostRuntime) -> Result<(), Fail> {
     see_dimensions::<Brand>(&rt, rt.alloc(), Blank::new(1))
+}
+
+/// How many places are asked for after how many, those from the greatest delay of flights on, and from the least.
+static LISTS: [(usize, usize, &[usize], &[usize]); 5] = [
+    (2, 1, &[2, 1], &[1, 2]),
+    (9, 0, &[3, 2, 1, 0], &[0, 1, 2, 3]),
+    (0, 0, &[], &[]),
+    (1, 3, &[0], &[3]),
+    (9, 4, &[], &[]),
+];
+
+fn see_lists<L: Ledger>(rt: &impl Abort, alloc: Global, blank: Blank) -> Result<(), Fail>
+    requires name { blank.name ≡ L.name }
+    requires parts { blank.parts ≡ L.parts }
+    requires some { 0 < blank.parts }
+{
+    let mut steps = Steps::<L>::new(blank);
+    let cross = flights(rt, alloc, &mut steps)?;
+    for (count, offset, greatest, least) in &LISTS {
+        let found = cross.top(DimensionId(0), *count, *offset, &mut steps)?;
+        assert_eq!(rt; found.as_slice(), *greatest);
+        let found = cross.bottom(DimensionId(0), *count, *offset, &mut steps)?;
+        assert_eq!(rt; found.as_slice(), *least);
+    }
+    Ok(())
+}
+
+#[test]
+fn each_list(rt: HostRuntime) -> Result<(), Fail> {
+    see_lists::<Brand>(&rt, rt.alloc(), Blank::new(1))
 }

@@ -16,7 +16,7 @@ pub(crate) struct TextLength {
 impl Accessor for TextLength {
     ghost use Rattle.std.specs.Prelude.{false, slice_get};
     ghost use Rattle.xf_base.specs.declared.kind.KeyKind.TheVariants.{Num};
-    ghost use Rattle.xf_access.specs.Own.{text_length, has_text, text_length-lawful};
+    ghost use Rattle.xf_cross_cases.specs.Own.{text_length, has_text, text_length-lawful};
 
     ghost keys_of = { λ own row. text_length (slice_get row own.column) };
 
@@ -61,7 +61,7 @@ impl Accessor for TextLength {
 pub(crate) struct Halves;
 
 impl Rounding for Halves {
-    ghost use Rattle.xf_access.specs.Own.{halved, halved-keeps_order};
+    ghost use Rattle.xf_cross_cases.specs.Own.{halved, halved-keeps_order};
 
     ghost rounded = { λ own. halved };
 
