@@ -55,7 +55,7 @@ static BAD_FILTERS: [(&str, usize, u64); 42] = [
 fn bad_filters(rt: HostRuntime) -> Result<(), Fail> {
     for (line, first, number) in &BAD_FILTERS {
         let words = words_of(rt.alloc(), line)?;
-        assert!(rt; *first <= words.len() + 1);
+        assert!(rt; *first >= 1 && *first <= words.len() + 1);
         let read = read_filter(rt.alloc(), words.as_slice(), *first);
         let bad = FilterSyntax::Word { number: *number };
         assert!(rt; matches!(read, Err(cause) if cause == bad), "{line}");
@@ -79,7 +79,7 @@ static BAD_ITEMS: [(&str, usize, u64); 8] = [
 fn bad_items(rt: HostRuntime) -> Result<(), Fail> {
     for (line, first, number) in &BAD_ITEMS {
         let words = words_of(rt.alloc(), line)?;
-        assert!(rt; *first <= words.len() + 1);
+        assert!(rt; *first >= 1 && *first <= words.len() + 1);
         let read = read_item(rt.alloc(), words.as_slice(), *first);
         let bad = FilterSyntax::Word { number: *number };
         assert!(rt; matches!(read, Err(cause) if cause == bad), "{line}");
