@@ -1,0 +1,89 @@
+//! The crossfilter by the ids of its dimensions and groups: what each of them gives.
+mod dimensions;
+
+use crate::named::a_schema;
+use crate::told::{TEXT, Told, WHOLE, key_of};
+use std::alloc::Global;
+use std::process::Abort;
+use std::sync::ledger::Ledger;
+use std::test::Fail;
+use xf_access::{Accessor, StockAccessor, StockRounding};
+use xf_base::{Cell, Limits, OutOfMemory, Row, RowList, Steps, Text, TextList};
+use xf_engine::{Cross, KeyNumber};
+use xf_filter::StockPredicate;
+
+/// A crossfilter over the stock.
+type StockCross = Cross<StockAccessor, StockRounding, StockPredicate>;
+
+/// Compares entries with those that a table has.
+fn see_entries(
+    rt: &impl Abort,
+    alloc: Global,
+    found: &[KeyNumber],
+    want: &[(Told, i128)],
+) -> Result<(), Fail> {
+    assert_eq!(rt; found.len(), want.len());
+    for (entry, (key, number)) in found.iter().zip(want) {
+        let key = key_of(alloc, key)?;
+        assert!(rt; entry.key == key && entry.number == *number);
+    }
+    Ok(())
+}
+
+/// A record as a table has it: a text, a whole number, cents, a day and tags.
+type ToldRecord = (&'static str, i64, i64, i64, &'static [&'static str]);
+
+static RECORDS: [ToldRecord; 4] = [
+    ("ab", -5, 100, 0, &["a", "b"]),
+    ("b", 0, 200, -1, &[]),
+    ("ac", 7, 100, 3, &["ab", "ac", "b"]),
+    ("b", 7, 300, 31, &["c"]),
+];
+
+/// The carrier and the delay of flights.
+static FLIGHTS: [ToldRecord; 4] = [
+    ("AA", -5, 100, 0, &[]),
+    ("UA", 0, 200, 0, &[]),
+    ("AA", 7, 300, 0, &[]),
+    ("DL", 7, 100, 0, &[]),
+];
+
+fn rows_of(alloc: Global, records: &[ToldRecord]) -> Result<RowList, OutOfMemory> {
+    let mut rows = RowList::new(alloc);
+    for (text, number, cents, day, tags) in records {
+        let mut list = TextList::new(alloc);
+        for tag in *tags {
+            list.push(Text::of(alloc, tag)?)?;
+        }
+        let mut row = Row::new(alloc);
+        row.push(Cell::Text(Text::of(alloc, text)?))?;
+        row.push(Cell::Num(*number))?;
+        row.push(Cell::Num(*cents))?;
+        row.push(Cell::Num(*day))?;
+        row.push(Cell::Tags(list))?;
+        rows.push(row)?;
+    }
+    Ok(rows)
+}
+
+/// The delays and the carriers of flights.
+static DIMENSIONS: [StockAccessor; 2] = [
+    StockAccessor::Column(1, WHOLE),
+    StockAccessor::Column(0, TEXT),
+];
+
+/// Flights with these two dimensions, each with a group.
+fn flights<L: Ledger>(
+    rt: &impl Abort,
+    alloc: Global,
+    steps: &mut Steps<L>,
+) -> Result<StockCross, Fail> {
+    let mut cross = Cross::new(alloc, a_schema(alloc)?, Limits::standard());
+    for accessor in &DIMENSIONS {
+        assert!(rt; accessor.fits(cross.schema()));
+        let dimension = cross.add_dimension(*accessor, steps)?;
+        cross.add_group(dimension, StockRounding::Same, steps)?;
+    }
+    cross.add_records(rows_of(alloc, &FLIGHTS)?, steps)?;
+    Ok(cross)
+}

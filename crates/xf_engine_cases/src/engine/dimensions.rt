@@ -1,0 +1,140 @@
+//! A crossfilter over each accessor of the stock: what groups count, and which records have the least and the greatest
+//! keys.
+ghost use Rattle.std.specs.Prelude.{◌≡◌, ◌<◌};
+
+use crate::engine::{RECORDS, StockCross, flights, rows_of, see_entries};
+use crate::named::a_schema;
+use crate::told::{TEXT, TEXT_AND_CENTS, Told, WHOLE};
+use std::alloc::Global;
+use std::marker::Brand;
+use std::process::Abort;
+use std::sync::ledger::{Blank, Ledger};
+use std::test::Fail;
+use xf_access::{Accessor, StockAccessor, StockRounding};
+use xf_base::{Limits, Steps};
+use xf_engine::{Cross, DimensionId};
+
+/// A dimension, how its group rounds, the group's entries, the records from the least key on, and of those from the
+/// greatest key on the second and the third.
+static DIMENSIONS: [(
+    StockAccessor,
+    StockRounding,
+    &[(Told, i128)],
+    &[usize],
+    &[usize],
+); 6] = [
+    (
+        StockAccessor::Column(1, WHOLE),
+        StockRounding::Floor(10),
+        &[(Told::Num(-10), 1), (Told::Num(0), 3)],
+        &[0, 1, 2, 3],
+        &[2, 1],
+    ),
+    (
+        StockAccessor::Column(0, TEXT),
+        StockRounding::FirstLetters(1),
+        &[(Told::Text("a"), 2), (Told::Text("b"), 2)],
+        &[0, 2, 1, 3],
+        &[1, 2],
+    ),
+    (
+        StockAccessor::PairOf(0, 2, TEXT_AND_CENTS),
+        StockRounding::Same,
+        &[
+            (Told::Pair("ab", 100), 1),
+            (Told::Pair("ac", 100), 1),
+            (Told::Pair("b", 200), 1),
+            (Told::Pair("b", 300), 1),
+        ],
+        &[0, 2, 1, 3],
+        &[1, 2],
+    ),
+    (
+        StockAccessor::Weekday(3),
+        StockRounding::Same,
+        &[(Told::Num(0), 2), (Told::Num(3), 1), (Told::Num(4), 1)],
+        &[2, 3, 1, 0],
+        &[1, 3],
+    ),
+    (
+        StockAccessor::Month(3),
+        StockRounding::Same,
+        &[(Told::Num(1), 2), (Told::Num(2), 1), (Told::Num(12), 1)],
+        &[0, 2, 3, 1],
+        &[3, 2],
+    ),
+    (
+        StockAccessor::Tags(4),
+        StockRounding::FirstLetters(1),
+        &[
+            (Told::Text("a"), 2),
+            (Told::Text("b"), 2),
+            (Told::Text("c"), 1),
+        ],
+        &[0, 2, 2, 0, 2, 3],
+        &[2, 0],
+    ),
+];
+
+fn see_dimensions<L: Ledger>(rt: &impl Abort, alloc: Global, blank: Blank) -> Result<(), Fail>
+    requires name { blank.name ≡ L.name }
+    requires parts { blank.parts ≡ L.parts }
+    requires some { 0 < blank.parts }
+{
+    let mut steps = Steps::<L>::new(blank);
+    let mut cross: StockCross = Cross::new(alloc, a_schema(alloc)?, Limits::standard());
+    assert!(rt; cross.add_records(rows_of(alloc, &RECORDS)?, &mut steps) == Ok(()));
+    assert!(rt; cross.is_sound() && cross.size() == 4);
+    for (accessor, rounding, entries, least, greatest) in &DIMENSIONS {
+        assert!(rt; accessor.fits(cross.schema()));
+        let dimension = cross.add_dimension(*accessor, &mut steps)?;
+        let group = cross.add_group(dimension, *rounding, &mut steps)?;
+        assert!(rt; cross.group_dimension(group) == Ok(dimension));
+        let found = cross.group_all(group, &mut steps)?;
+        see_entries(rt, alloc, found.as_slice(), entries)?;
+        let found = cross.bottom(dimension, 9, 0, &mut steps)?;
+        assert_eq!(rt; found.as_slice(), *least);
+        let found = cross.top(dimension, 2, 1, &mut steps)?;
+        assert_eq!(rt; found.as_slice(), *greatest);
+    }
+    assert!(rt; 0 < cross.size());
+    assert_eq!(rt; cross.row(0, &mut steps).len(), 5);
+    assert_eq!(rt; cross.passing_count(&mut steps), 4);
+    Ok(())
+}
+
+/// A record of several tags that round to one is counted once, and of equal keys the later record is the greater.
+#[test]
+fn each_accessor(rt: HostRuntime) -> Result<(), Fail> {
+    see_dimensions::<Brand>(&rt, rt.alloc(), Blank::new(1))
+}
+
+/// How many places are asked for after how many, those from the greatest delay of flights on, and from the least.
+static LISTS: [(usize, usize, &[usize], &[usize]); 5] = [
+    (2, 1, &[2, 1], &[1, 2]),
+    (9, 0, &[3, 2, 1, 0], &[0, 1, 2, 3]),
+    (0, 0, &[], &[]),
+    (1, 3, &[0], &[3]),
+    (9, 4, &[], &[]),
+];
+
+fn see_lists<L: Ledger>(rt: &impl Abort, alloc: Global, blank: Blank) -> Result<(), Fail>
+    requires name { blank.name ≡ L.name }
+    requires parts { blank.parts ≡ L.parts }
+    requires some { 0 < blank.parts }
+{
+    let mut steps = Steps::<L>::new(blank);
+    let cross = flights(rt, alloc, &mut steps)?;
+    for (count, offset, greatest, least) in &LISTS {
+        let found = cross.top(DimensionId(0), *count, *offset, &mut steps)?;
+        assert_eq!(rt; found.as_slice(), *greatest);
+        let found = cross.bottom(DimensionId(0), *count, *offset, &mut steps)?;
+        assert_eq!(rt; found.as_slice(), *least);
+    }
+    Ok(())
+}
+
+#[test]
+fn each_list(rt: HostRuntime) -> Result<(), Fail> {
+    see_lists::<Brand>(&rt, rt.alloc(), Blank::new(1))
+}
