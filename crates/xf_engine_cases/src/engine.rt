@@ -1,5 +1,7 @@
-//! The crossfilter by the ids of its dimensions and groups: what each of them gives.
+//! The crossfilter by the ids of its dimensions and groups: what each of them gives, what filters move, and what is removed.
 mod dimensions;
+mod predicates;
+mod removals;
 
 use crate::named::a_schema;
 use crate::told::{TEXT, Told, WHOLE, key_of};
@@ -30,6 +32,15 @@ fn see_entries(
     Ok(())
 }
 
+/// Compares the numbers of entries with those that a table has.
+fn see_numbers(rt: &impl Abort, found: &[KeyNumber], want: &[i128]) -> Result<(), Fail> {
+    assert_eq!(rt; found.len(), want.len());
+    for (entry, number) in found.iter().zip(want) {
+        assert_eq!(rt; entry.number, *number);
+    }
+    Ok(())
+}
+
 /// A record as a table has it: a text, a whole number, cents, a day and tags.
 type ToldRecord = (&'static str, i64, i64, i64, &'static [&'static str]);
 
@@ -46,6 +57,13 @@ static FLIGHTS: [ToldRecord; 4] = [
     ("UA", 0, 200, 0, &[]),
     ("AA", 7, 300, 0, &[]),
     ("DL", 7, 100, 0, &[]),
+];
+
+/// Numbers and tags.
+static TAGGED: [ToldRecord; 3] = [
+    ("", 1, 0, 0, &["a", "b"]),
+    ("", 2, 0, 0, &[]),
+    ("", 3, 0, 0, &["b", "c"]),
 ];
 
 fn rows_of(alloc: Global, records: &[ToldRecord]) -> Result<RowList, OutOfMemory> {
