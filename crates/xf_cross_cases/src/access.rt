@@ -1,4 +1,3 @@
-//! The stock on values from outside, and an accessor and a rounding that are not of it.
+//! The stock on values from outside.
 pub(crate) mod accessors;
-pub(crate) mod own;
 mod roundings;

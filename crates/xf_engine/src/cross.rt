@@ -80,6 +80,13 @@ impl<A: Accessor, G: Rounding, P: Predicate> Cross<A, G, P> {
         self.table.schema()
     }
 
+    /// How much may be held.
+    pub fn limits(&self) -> &Limits
+        ensures { result.now ≡ self.now.limits }
+    {
+        self.table.limits()
+    }
+
     /// The number of records.
     pub fn size(&self) -> u64
         ensures { result ≡ length self.now.rows }

@@ -18,7 +18,7 @@ use xf_filter::StockPredicate;
 type StockCross = Cross<StockAccessor, StockRounding, StockPredicate>;
 
 /// Compares entries with those that a table has.
-fn see_entries(
+pub(crate) fn see_entries(
     rt: &impl Abort,
     alloc: Global,
     found: &[KeyNumber],
@@ -44,7 +44,7 @@ fn see_numbers(rt: &impl Abort, found: &[KeyNumber], want: &[i128]) -> Result<()
 /// A record as a table has it: a text, a whole number, cents, a day and tags.
 type ToldRecord = (&'static str, i64, i64, i64, &'static [&'static str]);
 
-static RECORDS: [ToldRecord; 4] = [
+pub(crate) static RECORDS: [ToldRecord; 4] = [
     ("ab", -5, 100, 0, &["a", "b"]),
     ("b", 0, 200, -1, &[]),
     ("ac", 7, 100, 3, &["ab", "ac", "b"]),
@@ -66,7 +66,7 @@ static TAGGED: [ToldRecord; 3] = [
     ("", 3, 0, 0, &["b", "c"]),
 ];
 
-fn rows_of(alloc: Global, records: &[ToldRecord]) -> Result<RowList, OutOfMemory> {
+pub(crate) fn rows_of(alloc: Global, records: &[ToldRecord]) -> Result<RowList, OutOfMemory> {
     let mut rows = RowList::new(alloc);
     for (text, number, cents, day, tags) in records {
         let mut list = TextList::new(alloc);

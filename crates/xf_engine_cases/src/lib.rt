@@ -9,4 +9,6 @@ mod engine;
 #[cfg(test)]
 mod named;
 #[cfg(test)]
+mod own;
+#[cfg(test)]
 mod told;

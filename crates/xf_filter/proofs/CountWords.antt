@@ -41,7 +41,7 @@ decimal-digits n small = decimal_by_steps_wide AreDigitsOf one_digit digit_more 
 wide : (n : ℕ) → n < 10 ^ 15 → n < 10 ^ 64
 wide n small = omega (arith, pow-le-pow_right {n = 10} (lit< tt) {i = 15} {j = 64} (omega arith))
 
-count_again : (n : ℕ) → n < 10 ^ 15 → count_of (decimal n) ≡ Some n
+pub count_again : (n : ℕ) → n < 10 ^ 15 → count_of (decimal n) ≡ Some n
 count_again n small =
     let own = decimal-digits n (wide n small) in
     let few : length (decimal n) ≤ 15 = length-decimal-le_wide 15 n (omega arith) small (wide n small) in
@@ -90,7 +90,7 @@ count-small word n e =
 
 -- ---- the numbers of a modulo
 
-where_is : (test : ℕ → Bool) (o : Option ℕ) (n : ℕ) → if_passing test o ≡ Some n → (o ≡ Some n) × (test n ≡ true)
+pub where_is : (test : ℕ → Bool) (o : Option ℕ) (n : ℕ) → if_passing test o ≡ Some n → (o ≡ Some n) × (test n ≡ true)
 where_is test None n e = absurd cc
 where_is test (Some m) n e = by_test (test m) refl e
   where

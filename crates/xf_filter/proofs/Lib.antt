@@ -1,13 +1,14 @@
 mod Misfits
-mod Again
+pub mod Again
 mod Bad
 mod Begun
-mod CountWords
+pub mod CountWords
 mod Counts
 mod Depths
-mod Found
+pub mod Found
 mod Items
 mod Local
-mod Printed
-mod ReadBack
+pub mod Printed
+pub mod ReadBack
 mod Steps
+pub mod Utf8Filters

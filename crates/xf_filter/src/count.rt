@@ -31,7 +31,7 @@ pub fn remainder_of(divisor: u64, word: &[u8]) -> Option<u64>
 }
 
 /// The count that a word writes: 1 to 15 digits, of which the first may be 0.
-fn count_of(word: &[u8]) -> Option<u64>
+pub fn count_of(word: &[u8]) -> Option<u64>
     ensures exact { result ≡ count_of word.now }
     ensures small { IfSome result (λ count. count < 10 ^ 15) }
 {

@@ -19,6 +19,7 @@ mod resolving;
 mod stock_predicate;
 mod toggle;
 
+pub use count::count_of;
 pub use filter::Filter;
 pub use filter_syntax::FilterSyntax;
 pub use item::Item;

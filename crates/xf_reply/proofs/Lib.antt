@@ -1,0 +1,2 @@
+pub mod BareNumbers
+pub mod Puts

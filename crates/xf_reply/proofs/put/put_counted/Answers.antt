@@ -1,0 +1,5 @@
+use Rattle.xf_reply.proofs.Puts.{puts_two}
+use Rattle.xf_reply.proofs.put.put_counted.Goals as goal
+
+pub returns : goal.returns
+returns c = puts_two c.in_ok-put_text.ensures c.in_ok-put_count.ensures

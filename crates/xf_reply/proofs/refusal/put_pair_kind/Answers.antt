@@ -1,0 +1,5 @@
+use Rattle.xf_reply.proofs.Puts.{puts_four, puts_two}
+use Rattle.xf_reply.proofs.refusal.put_pair_kind.Goals as goal
+
+pub returns : goal.returns
+returns c = puts_four c.in_ok-put_text.ensures c.in_ok-put_atom_kind.ensures (puts_two c.in_ok-put_text-2.ensures c.in_ok-put_atom_kind-2.ensures) c.in_ok-put_text-3.ensures

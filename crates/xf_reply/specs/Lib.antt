@@ -1,0 +1,4 @@
+pub mod Answer
+pub mod Put
+pub mod Refused
+pub mod Step

@@ -1,0 +1,4 @@
+pub mod Canonical
+pub mod Grammar
+pub mod Line
+pub mod Openers
