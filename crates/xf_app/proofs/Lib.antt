@@ -1,9 +1,7 @@
-pub mod BoardFacts
-pub mod BoardRows
-pub mod NumberText
+pub mod LineFacts
+pub mod PageLines
 pub mod Put
 pub mod Replayed
 pub mod RunFacts
-pub mod ScriptFacts
-pub mod StandardIds
-pub mod StandardStates
+pub mod Stepped
+pub mod Told

@@ -1,12 +1,9 @@
 -- What is put text by text.
-use Rattle.std.proofs.Common.{◌≡◌, ◌≢◌, inr, ℕ, List, [], ◌++◌, Option, Some, None, option_map, refl, sym, ap, ◌∙◌, append_assoc, subst}
+use Rattle.std.proofs.Common.{◌≡◌, inr, ℕ, List, [], ◌++◌, Option, Some, None, option_map, refl, sym, ap, ◌∙◌, append_assoc}
 use Rattle.std.proofs.lemmas.List.{append-nil}
-use Rattle.xf_app.specs.Due.{Due, refused_line}
-use Rattle.xf_app.specs.Ends.{Ends, EndsRefused, StopsIn}
+use Rattle.xf_app.specs.Due.{Due}
+use Rattle.xf_app.specs.Ends.{Ends, StopsIn}
 use Rattle.xf_app.specs.Put.{Puts, PutsPart}
-use Rattle.xf_app.specs.declared.board.BoardFault.{BoardFault}
-use Rattle.xf_app.specs.declared.board.BoardFault.TheVariants as fault
-use Rattle.xf_app.specs.declared.status.Status.{Status}
 use Rattle.xf_app.specs.declared.status.Status.TheVariants as status
 use Rattle.xf_outside.specs.Account.{SinkAccount}
 
@@ -49,12 +46,3 @@ stops-silent text sink = inr (refl, part-nothing sink text, refl)
 
 pub ends-silent : (due : Due) (sink : SinkAccount) → Ends due sink sink status.Memory
 ends-silent due sink = inr (stops-silent due.text sink)
-
--- the line of a refusal was told
-pub ends-refused : (cause : BoardFault) (line : List ℕ) (before after : SinkAccount) (got : Status) → cause ≢ fault.OutOfMemory → line ≡ refused_line cause
-    → Ends (record { status = status.BoardRefused; text = line }) before after got → EndsRefused cause before after got
-ends-refused fault.NoHeader line before after got other e told = subst (λ (text : List ℕ). Ends (record { status = status.BoardRefused; text = text }) before after got) e told
-ends-refused (fault.UnevenRecord number) line before after got other e told = subst (λ (text : List ℕ). Ends (record { status = status.BoardRefused; text = text }) before after got) e told
-ends-refused (fault.TooManyRecords more) line before after got other e told = subst (λ (text : List ℕ). Ends (record { status = status.BoardRefused; text = text }) before after got) e told
-ends-refused (fault.TooManyEntries more) line before after got other e told = subst (λ (text : List ℕ). Ends (record { status = status.BoardRefused; text = text }) before after got) e told
-ends-refused fault.OutOfMemory line before after got other e told = absurd (other refl)

@@ -1,34 +1,33 @@
 -- What the parts of a run give together.
-use Rattle.std.proofs.Common.{◌≡◌, ◌⊎◌, inl, inr, ℕ, ◌+◌, ◌<◌, ◌≤◌, nat_eq, nat_lt, cond, true, false, List, length, Option, Some, None, IfSome, IsSome, IsSomeAnd, Result, Ok, Err, refl, sym, ap, subst, ◌∙◌, arith}
+use Rattle.std.proofs.Common.{◌≡◌, ◌⊎◌, inl, inr, ℕ, ◌+◌, ◌<◌, ◌≤◌, nat_lt, true, false, List, length, Option, Some, None, IfSome, IsSome, IsSomeAnd, Result, Ok, Err, refl, sym, ap, subst, ◌∙◌, arith}
 use Rattle.std.proofs.lemmas.Bool.{lt-ltb, le-ltb}
 use Rattle.std.specs.FinMap.{get}
 use Rattle.xf_app.proofs.Put.{part-nothing}
-use Rattle.xf_app.specs.Board.{board_of}
-use Rattle.xf_app.specs.BoardParts.{BoardParts}
+use Rattle.xf_app.proofs.Told.{told-both, told-each, told-map}
 use Rattle.xf_app.specs.Due.{Due, absent_due, board_due, due_of, file_due, files_due, names_due, progress_due, refused_due, session_of, too_long_due, usage_due}
-use Rattle.xf_app.specs.Ends.{Ends, EndsRefused, EndsSilent, EndsUnfetched, IsRun}
+use Rattle.xf_app.specs.Ends.{Counted, Ends, EndsSilent, EndsUnfetched, IsRun, Plays, Sides}
 use Rattle.xf_app.specs.Put.{Puts, PutsPart}
 use Rattle.xf_app.specs.Run.{CountsFaults, CountsMisses, HasCause, Headline, Holds, IsAccepted, IsStopped, MeetsDue, NoMiss, NoReadFault, NoWriteFault, OneMiss, ReadingFailed, RunAccount, WritingFailed}
 use Rattle.xf_app.specs.Words.{names_of}
-use Rattle.xf_app.specs.declared.board.BoardFault.{BoardFault}
-use Rattle.xf_app.specs.declared.board.BoardFault.TheVariants as fault
 use Rattle.xf_app.specs.declared.status.Status.{Status}
 use Rattle.xf_app.specs.declared.status.Status.TheVariants as status
+use Rattle.xf_base.specs.Bounds.{Bounds, standard}
 use Rattle.xf_base.specs.declared.limits.TheConstants.Limits.{FILE_BYTES}
 use Rattle.xf_outside.specs.Account.{DepotAccount, Files, SinkAccount}
 use Rattle.xf_outside.specs.Count.{FaultsAfterFetch, MissesAfterFetch, Rose, RoseExactly}
 use Rattle.xf_outside.specs.declared.depot.FetchFault.{FetchFault}
 use Rattle.xf_outside.specs.declared.depot.FetchFault.TheVariants as fetch
+use Rattle.xf_reply.specs.declared.refusal.Refusal.{Refusal}
+use Rattle.xf_session.specs.Start.{csv_session}
+use Rattle.xf_session.specs.State.{Session}
+use Rattle.xf_session.specs.declared.start.CsvStart.{CsvStart}
+use Rattle.xf_session.specs.declared.start.CsvStart.TheVariants.{OutOfMemory, Refused}
 
 -- what the depot counted is as this status tells it, where its text is put whole and where it is not
-record Counted (run : RunAccount) (got : Status) : Type 0 where
+record CountsAs (run : RunAccount) (got : Status) : Type 0 where
   faults : NoReadFault run
-  miss : OneMiss run
   told : NoWriteFault run → CountsFaults run got
   misses : CountsMisses run got
-
-no_miss-one : (run : RunAccount) → NoMiss run → OneMiss run
-no_miss-one run none = omega (arith, none)
 
 -- a run that stopped without memory has counted a fault
 stopped-counted : (run : RunAccount) (got : Status) → HasCause run got → IsStopped got → (got ≡ status.Memory → ⊥) → (ReadingFailed run → ⊥) → (WritingFailed run → ⊥) → ⊥
@@ -48,22 +47,22 @@ file_due-held files name bytes given held =
     rw (held.0, short) refl
 
 -- what is due for the session's file, after a board that was accepted
-abbrev after_board : Files → List ℕ → BoardParts → Due
-after_board files session board = file_due session (get files session) (λ s. progress_due (session_of board s))
+abbrev after_board : Files → List ℕ → Session → Due
+after_board files session board = file_due session (get files session) (λ s. progress_due (session_of files board s))
 
 -- what is due for a board that is held is what it reads as
-files_due-held : (files : Files) (name session bytes : List ℕ) (read : Result BoardParts BoardFault) → Holds files name bytes → board_of bytes ≡ read
+files_due-held : (files : Files) (name session bytes : List ℕ) (read : Result Session Refusal) → Holds files name bytes → csv_session standard bytes ≡ read
     → files_due name session files ≡ board_due read (after_board files session)
 files_due-held files name session bytes read held made =
-    file_due-held files name bytes (λ b. board_due (board_of b) (after_board files session)) held ∙ ap (λ r. board_due r (after_board files session)) made
+    file_due-held files name bytes (λ b. board_due (csv_session standard b) (after_board files session)) held ∙ ap (λ r. board_due r (after_board files session)) made
 
 -- the headline follows from what is due
 headline-from : (run : RunAccount) (got : Status) → HasCause run got → MeetsDue run got → Headline run got
 headline-from run got cause meets = λ name session_name bytes session files board names told held made session_held reading writing memory.
-    let session_due : Due = progress_due (session_of board session) in
+    let session_due : Due = progress_due (session_of files board session) in
     let due : due_of run.words run.before.depot.files ≡ Some session_due =
     rw (names, told) (ap (λ (d : Due). Some d) (files_due-held files name session_name bytes (Ok board) held made
-    ∙ file_due-held files session_name session (λ s. progress_due (session_of board s)) session_held)) in
+    ∙ file_due-held files session_name session (λ s. progress_due (session_of files board s)) session_held)) in
     elim (rw due at meets) [
       | inl whole ↦ whole.1
       | inr stopped ↦ absurd (stopped-counted run got cause stopped.0 memory reading writing)
@@ -82,45 +81,38 @@ meets run got cause faults misses due = record {
 abbrev IsDue : RunAccount → Due → Type 0
 IsDue run due = IfSome (due_of run.words run.before.depot.files) (λ d. d ≡ due)
 
-weaker : {X : Type 0} (o : Option X) (P R : X → Type 0) → ((x : X) → P x → R x) → IfSome o P → IfSome o R
-weaker None P R f p = tt
-weaker (Some x) P R f p = f x p
-
 -- a run that ended with what is due
-ends : (run : RunAccount) (due : Due) (got : Status) → IsDue run due → HasCause run due.status → Counted run due.status → Ends due run.before.sink run.after.sink got → IsRun run got
+ends : (run : RunAccount) (due : Due) (got : Status) → IsDue run due → HasCause run due.status → CountsAs run due.status → Ends due run.before.sink run.after.sink got → IsRun run got
 ends run due got is cause counted h =
     elim h [
       | inl whole ↦ meets run got (subst (HasCause run) (sym whole.0) cause) (subst (CountsFaults run) (sym whole.0) (counted.told whole.1.1)) (subst (CountsMisses run) (sym whole.0) counted.misses)
-          (weaker (due_of run.words run.before.depot.files) _ _ (λ d e. inl (rw e whole.0, rw e whole.1.0)) is)
+          (told-map (due_of run.words run.before.depot.files) _ _ (λ d e. inl (rw e whole.0, rw e whole.1.0)) is)
       | inr stopped ↦ elim stopped [
-        | inl failed ↦ meets run got (subst (HasCause run) (sym failed.0) failed.2.0) (subst (CountsFaults run) (sym failed.0) (counted.faults, failed.2)) (subst (CountsMisses run) (sym failed.0) counted.miss)
-            (weaker (due_of run.words run.before.depot.files) _ _ (λ d e. inr (inr (inl failed.0), rw e failed.1)) is)
-        | inr memory ↦ meets run got (subst (HasCause run) (sym memory.0) tt) (subst (CountsFaults run) (sym memory.0) (counted.faults, memory.2)) (subst (CountsMisses run) (sym memory.0) counted.miss)
-            (weaker (due_of run.words run.before.depot.files) _ _ (λ d e. inr (inr (inr memory.0), rw e memory.1)) is)
+        | inl failed ↦ meets run got (subst (HasCause run) (sym failed.0) failed.2.0) (subst (CountsFaults run) (sym failed.0) (counted.faults, failed.2)) (subst (CountsMisses run) (sym failed.0) tt)
+            (told-map (due_of run.words run.before.depot.files) _ _ (λ d e. inr (inr (inl failed.0), rw e failed.1)) is)
+        | inr memory ↦ meets run got (subst (HasCause run) (sym memory.0) tt) (subst (CountsFaults run) (sym memory.0) (counted.faults, memory.2)) (subst (CountsMisses run) (sym memory.0) tt)
+            (told-map (due_of run.words run.before.depot.files) _ _ (λ d e. inr (inr (inr memory.0), rw e memory.1)) is)
       ]
     ]
 
 -- nothing was put: the run stopped before it put anything
 silent-due : (run : RunAccount) (got : Status) → IsStopped got → run.after.sink ≡ run.before.sink → MeetsDue run got
 silent-due run got stopped same =
-    go (due_of run.words run.before.depot.files)
-  where
-    go : (o : Option Due) → IfSome o (λ due. ((got ≡ due.status) × Puts run.before.sink run.after.sink due.text) ⊎ (IsStopped got × PutsPart run.before.sink run.after.sink due.text))
-    go None = tt
-    go (Some due) = inr (stopped, subst (λ sink. PutsPart run.before.sink sink due.text) (sym same) (part-nothing run.before.sink due.text))
+    told-each (due_of run.words run.before.depot.files) _ (λ due e. inr (stopped, subst (λ sink. PutsPart run.before.sink sink due.text) (sym same) (part-nothing run.before.sink due.text)))
 
-silent-memory : (run : RunAccount) (got : Status) → NoReadFault run → NoMiss run → EndsSilent status.Memory run.before.sink run.after.sink got → IsRun run got
-silent-memory run got quiet none h =
-    meets run got (subst (HasCause run) (sym h.0) tt) (subst (CountsFaults run) (sym h.0) (quiet, ap (λ (s : SinkAccount). s.faults) h.1)) (subst (CountsMisses run) (sym h.0) (no_miss-one run none))
+-- memory was refused before anything was put
+pub silent-memory : (run : RunAccount) (got : Status) → NoReadFault run → EndsSilent status.Memory run.before.sink run.after.sink got → IsRun run got
+silent-memory run got quiet h =
+    meets run got (subst (HasCause run) (sym h.0) tt) (subst (CountsFaults run) (sym h.0) (quiet, ap (λ (s : SinkAccount). s.faults) h.1)) (subst (CountsMisses run) (sym h.0) tt)
     (silent-due run got (inr (inr h.0)) h.1)
 
 -- the count of the depot's faults rose by one, and by no more
 abbrev FailedOnce : RunAccount → Type 0
 FailedOnce run = RoseExactly run.before.depot.faults run.after.depot.faults 1
 
-silent-read_fault : (run : RunAccount) (got : Status) → IsAccepted run → FailedOnce run → NoMiss run → EndsSilent status.ReadFault run.before.sink run.after.sink got → IsRun run got
-silent-read_fault run got accepted failed none h =
-    meets run got (subst (HasCause run) (sym h.0) (accepted, failed.0, h.1)) (subst (CountsFaults run) (sym h.0) (failed, ap (λ (s : SinkAccount). s.faults) h.1)) (subst (CountsMisses run) (sym h.0) none)
+silent-read_fault : (run : RunAccount) (got : Status) → IsAccepted run → FailedOnce run → EndsSilent status.ReadFault run.before.sink run.after.sink got → IsRun run got
+silent-read_fault run got accepted failed h =
+    meets run got (subst (HasCause run) (sym h.0) (accepted, failed.0)) (subst (CountsFaults run) (sym h.0) (failed, ap (λ (s : SinkAccount). s.faults) h.1)) (subst (CountsMisses run) (sym h.0) tt)
     (silent-due run got (inl h.0) h.1)
 
 -- the words are accepted
@@ -131,7 +123,7 @@ accepted words names e = rw e refl
 pub run-usage : (run : RunAccount) (got : Status) → names_of run.words ≡ None → NoReadFault run → NoMiss run → Ends usage_due run.before.sink run.after.sink got → IsRun run got
 run-usage run got none quiet found h =
     let is : IsDue run usage_due = rw none refl in
-    ends run usage_due got is none (record { faults = quiet; miss = no_miss-one run found; told = λ w. (quiet, w); misses = found }) h
+    ends run usage_due got is none (record { faults = quiet; told = λ w. (quiet, w); misses = found }) h
 
 -- what the files tell of a name
 names-due : (run : RunAccount) (name session : List ℕ) (due : Due) (fact : Files → Type 0) → names_of run.words ≡ Some (name, session)
@@ -169,9 +161,9 @@ pub missed-first : (run : RunAccount) (name : List ℕ) (cause : FetchFault)
     → (cause ≡ fetch.TooLong → Rose run.before.depot.taken run.after.depot.taken (FILE_BYTES + 1) × IfSome run.before.depot.files (λ files. IsSomeAnd (get files name) (λ bytes. FILE_BYTES < length bytes)))
     → FaultsAfterFetch {X = Unit {0}} (Err cause) run.before.depot.faults run.after.depot.faults → MissesAfterFetch {X = Unit {0}} (Err cause) run.before.depot.misses run.after.depot.misses → IsMissed run name cause
 missed-first run name fetch.Absent absent long faults misses = record { absent = absent; too_long = long; failed = λ e. cc e; quiet = λ e. faults; once = misses.1; found = λ e. absurd (e refl) }
-missed-first run name fetch.TooLong absent long faults misses = record { absent = absent; too_long = long; failed = λ e. cc e; quiet = λ e. faults; once = no_miss-one run misses; found = λ e. misses }
-missed-first run name fetch.Failed absent long faults misses = record { absent = absent; too_long = long; failed = λ e. faults; quiet = λ e. absurd (e refl); once = no_miss-one run misses; found = λ e. misses }
-missed-first run name fetch.OutOfMemory absent long faults misses = record { absent = absent; too_long = long; failed = λ e. cc e; quiet = λ e. faults; once = no_miss-one run misses; found = λ e. misses }
+missed-first run name fetch.TooLong absent long faults misses = record { absent = absent; too_long = long; failed = λ e. cc e; quiet = λ e. faults; once = omega (arith, misses); found = λ e. misses }
+missed-first run name fetch.Failed absent long faults misses = record { absent = absent; too_long = long; failed = λ e. faults; quiet = λ e. absurd (e refl); once = omega (arith, misses); found = λ e. misses }
+missed-first run name fetch.OutOfMemory absent long faults misses = record { absent = absent; too_long = long; failed = λ e. cc e; quiet = λ e. faults; once = omega (arith, misses); found = λ e. misses }
 
 -- and those of the second, where the first has counted no fault and no miss
 pub missed-second : (run : RunAccount) (name : List ℕ) (cause : FetchFault) (now : DepotAccount) → now.files ≡ run.before.depot.files → now.faults ≡ run.before.depot.faults
@@ -188,18 +180,18 @@ missed-second run name cause now files quiet found taken absent long faults miss
 
 -- a file that was fetched is held
 pub holds-fetched : (told : Option Files) (name bytes : List ℕ) → length bytes ≤ FILE_BYTES → IfSome told (λ files. get files name ≡ Some bytes) → IfSome told (λ files. Holds files name bytes)
-holds-fetched told name bytes small at = weaker told _ _ (λ files e. (e, small)) at
+holds-fetched told name bytes small at = told-map told _ _ (λ files e. (e, small)) at
 
 -- a file that is not there is told, and one that is too long
-counted-absent : (run : RunAccount) (name : List ℕ) → IsMissed run name fetch.Absent → Counted run status.Absent
+counted-absent : (run : RunAccount) (name : List ℕ) → IsMissed run name fetch.Absent → CountsAs run status.Absent
 counted-absent run name missed =
     let quiet = missed.quiet (λ e. cc e) in
-    record { faults = quiet; miss = missed.once; told = λ w. (quiet, w); misses = missed.once }
+    record { faults = quiet; told = λ w. (quiet, w); misses = missed.once }
 
-counted-too_long : (run : RunAccount) (name : List ℕ) → IsMissed run name fetch.TooLong → Counted run status.TooLong
+counted-too_long : (run : RunAccount) (name : List ℕ) → IsMissed run name fetch.TooLong → CountsAs run status.TooLong
 counted-too_long run name missed =
     let quiet = missed.quiet (λ e. cc e) in
-    record { faults = quiet; miss = missed.once; told = λ w. (quiet, w); misses = missed.found (λ e. cc e) }
+    record { faults = quiet; told = λ w. (quiet, w); misses = missed.found (λ e. cc e) }
 
 -- the board was not fetched
 pub run-no_board : (run : RunAccount) (name session : List ℕ) (cause : FetchFault) (got : Status) → names_of run.words ≡ Some (name, session)
@@ -210,76 +202,102 @@ run-no_board run name session fetch.Absent got names missed h =
     ends run (absent_due name) got is (accepted run.words (name, session) names, miss.0) (counted-absent run name missed) h
 run-no_board run name session fetch.TooLong got names missed h =
     let more = missed.too_long refl in
-    let is = names-due run name session (too_long_due name) (λ files. IsSomeAnd (get files name) (λ bytes. FILE_BYTES < length bytes)) names more.1 (λ files long. file_due-long files name (λ b. board_due (board_of b) (after_board files session)) long) in
+    let is = names-due run name session (too_long_due name) (λ files. IsSomeAnd (get files name) (λ bytes. FILE_BYTES < length bytes)) names more.1 (λ files long. file_due-long files name (λ b. board_due (csv_session standard b) (after_board files session)) long) in
     ends run (too_long_due name) got is (accepted run.words (name, session) names, more.0) (counted-too_long run name missed) h
-run-no_board run name session fetch.Failed got names missed h = silent-read_fault run got (accepted run.words (name, session) names) (missed.failed refl) (missed.found (λ e. cc e)) h
-run-no_board run name session fetch.OutOfMemory got names missed h = silent-memory run got (missed.quiet (λ e. cc e)) (missed.found (λ e. cc e)) h
+run-no_board run name session fetch.Failed got names missed h = silent-read_fault run got (accepted run.words (name, session) names) (missed.failed refl) h
+run-no_board run name session fetch.OutOfMemory got names missed h = silent-memory run got (missed.quiet (λ e. cc e)) h
 
 -- the board was refused
-pub run-refused : (run : RunAccount) (name session bytes : List ℕ) (read : Result BoardParts BoardFault) (cause : BoardFault) (got : Status) → names_of run.words ≡ Some (name, session)
-    → IfSome run.before.depot.files (λ files. Holds files name bytes) → NoReadFault run → NoMiss run → (read ≡ Err fault.OutOfMemory) ⊎ (read ≡ board_of bytes) → read ≡ Err cause
-    → EndsRefused cause run.before.sink run.after.sink got → IsRun run got
-run-refused run name session bytes read cause got names held quiet found is refused h = go cause refused h
-  where
-    refusal : (own : BoardFault) → (own ≡ fault.OutOfMemory → ⊥) → read ≡ Err own → Ends (refused_due own) run.before.sink run.after.sink got → IsRun run got
-    refusal own other e end =
-        let made : board_of bytes ≡ Err own = elim is [
-          | inl none ↦ let clash : ◌≡◌ {A = Result BoardParts BoardFault} (Err fault.OutOfMemory) (Err own) = sym none ∙ e in absurd (other (cc clash))
-          | inr same ↦ sym same ∙ e
-        ] in
-        let due = names-due run name session (refused_due own) (λ files. Holds files name bytes) names held (λ files holds. files_due-held files name session bytes (Err own) holds made) in
-        ends run (refused_due own) got due (accepted run.words (name, session) names) (record { faults = quiet; miss = no_miss-one run found; told = λ w. (quiet, w); misses = found }) end
+pub run-refused : (run : RunAccount) (name session bytes : List ℕ) (cause : Refusal) (got : Status) → names_of run.words ≡ Some (name, session)
+    → IfSome run.before.depot.files (λ files. Holds files name bytes) → NoReadFault run → NoMiss run → csv_session standard bytes ≡ Err cause
+    → Ends (refused_due cause) run.before.sink run.after.sink got → IsRun run got
+run-refused run name session bytes cause got names held quiet found made h =
+    let due = names-due run name session (refused_due cause) (λ files. Holds files name bytes) names held (λ files holds. files_due-held files name session bytes (Err cause) holds made) in
+    ends run (refused_due cause) got due (accepted run.words (name, session) names) (record { faults = quiet; told = λ w. (quiet, w); misses = found }) h
 
-    go : (own : BoardFault) → read ≡ Err own → EndsRefused own run.before.sink run.after.sink got → IsRun run got
-    go fault.NoHeader e end = refusal fault.NoHeader (λ o. cc o) e end
-    go (fault.UnevenRecord number) e end = refusal (fault.UnevenRecord number) (λ o. cc o) e end
-    go (fault.TooManyRecords more) e end = refusal (fault.TooManyRecords more) (λ o. cc o) e end
-    go (fault.TooManyEntries more) e end = refusal (fault.TooManyEntries more) (λ o. cc o) e end
-    go fault.OutOfMemory e end = silent-memory run got quiet found end
+-- a refused file has its cause
+pub csv-refused : (start : CsvStart) (cause : Refusal) (made : Result Session Refusal) → start ≡ Refused cause
+    → (start ≡ OutOfMemory) ⊎ ((own : Refusal) × (start ≡ Refused own) × (made ≡ Err own)) → made ≡ Err cause
+csv-refused start cause made is (inl none) = let clash : ◌≡◌ {A = CsvStart} (Refused cause) OutOfMemory = sym is ∙ none in cc clash
+csv-refused start cause made is (inr told) = let both : ◌≡◌ {A = CsvStart} (Refused told.0) (Refused cause) = sym told.1 ∙ is in let same : told.0 ≡ cause = cc in told.2 ∙ ap (λ c. Err c) same
 
--- a board that was read is what the definition says
-pub read-made : (bytes : List ℕ) (read : Result BoardParts BoardFault) (board : BoardParts) → (read ≡ Err fault.OutOfMemory) ⊎ (read ≡ board_of bytes) → read ≡ Ok board → board_of bytes ≡ Ok board
-read-made bytes read board (inl none) is = let clash : ◌≡◌ {A = Result BoardParts BoardFault} (Err fault.OutOfMemory) (Ok board) = sym none ∙ is in cc clash
-read-made bytes read board (inr same) is = sym same ∙ is
-
--- two facts of the files that are told give a third
-both : {X : Type 0} (o : Option X) (P Q : X → Type 0) → IfSome o P → IfSome o Q → IfSome o (λ x. P x × Q x)
-both None P Q p q = tt
-both (Some x) P Q p q = (p, q)
+-- the session of a file within the limits that nobody lowered
+pub csv-standard : (limits : Bounds) (slice bytes : List ℕ) (made : Result Session Refusal) → limits ≡ standard → slice ≡ bytes → csv_session limits slice ≡ made → csv_session standard bytes ≡ made
+csv-standard limits slice bytes made usual same is = subst (λ b. csv_session standard b ≡ made) same (subst (λ l. csv_session l slice ≡ made) usual is)
 
 -- what is due where the board was accepted
-session-due : (name session bytes : List ℕ) (board : BoardParts) (files : Files) → Holds files name bytes → board_of bytes ≡ Ok board
-    → files_due name session files ≡ file_due session (get files session) (λ s. progress_due (session_of board s))
+session-due : (name session bytes : List ℕ) (board : Session) (files : Files) → Holds files name bytes → csv_session standard bytes ≡ Ok board
+    → files_due name session files ≡ file_due session (get files session) (λ s. progress_due (session_of files board s))
 session-due name session bytes board files holds made = files_due-held files name session bytes (Ok board) holds made
 
 -- the session was not fetched, after a board that was accepted
-pub run-no_session : (run : RunAccount) (name session bytes : List ℕ) (board : BoardParts) (cause : FetchFault) (got : Status) → names_of run.words ≡ Some (name, session)
-    → IfSome run.before.depot.files (λ files. Holds files name bytes) → board_of bytes ≡ Ok board → IsMissed run session cause
+pub run-no_session : (run : RunAccount) (name session bytes : List ℕ) (board : Session) (cause : FetchFault) (got : Status) → names_of run.words ≡ Some (name, session)
+    → IfSome run.before.depot.files (λ files. Holds files name bytes) → csv_session standard bytes ≡ Ok board → IsMissed run session cause
     → EndsUnfetched cause session run.before.sink run.after.sink got → IsRun run got
 run-no_session run name session bytes board fetch.Absent got names held made missed h =
     let miss = missed.absent refl in
-    let is = names-due run name session (absent_due session) (λ files. Holds files name bytes × (get files session ≡ None)) names (both run.before.depot.files _ _ held miss.1)
+    let is = names-due run name session (absent_due session) (λ files. Holds files name bytes × (get files session ≡ None)) names (told-both run.before.depot.files _ _ held miss.1)
     (λ files t. session-due name session bytes board files t.0 made ∙ rw t.1 refl) in
     ends run (absent_due session) got is (accepted run.words (name, session) names, miss.0) (counted-absent run session missed) h
 run-no_session run name session bytes board fetch.TooLong got names held made missed h =
     let more = missed.too_long refl in
-    let is = names-due run name session (too_long_due session) (λ files. Holds files name bytes × IsSomeAnd (get files session) (λ b. FILE_BYTES < length b)) names (both run.before.depot.files _ _ held more.1)
-    (λ files t. session-due name session bytes board files t.0 made ∙ file_due-long files session (λ s. progress_due (session_of board s)) t.1) in
+    let is = names-due run name session (too_long_due session) (λ files. Holds files name bytes × IsSomeAnd (get files session) (λ b. FILE_BYTES < length b)) names (told-both run.before.depot.files _ _ held more.1)
+    (λ files t. session-due name session bytes board files t.0 made ∙ file_due-long files session (λ s. progress_due (session_of files board s)) t.1) in
     ends run (too_long_due session) got is (accepted run.words (name, session) names, more.0) (counted-too_long run session missed) h
-run-no_session run name session bytes board fetch.Failed got names held made missed h = silent-read_fault run got (accepted run.words (name, session) names) (missed.failed refl) (missed.found (λ e. cc e)) h
-run-no_session run name session bytes board fetch.OutOfMemory got names held made missed h = silent-memory run got (missed.quiet (λ e. cc e)) (missed.found (λ e. cc e)) h
+run-no_session run name session bytes board fetch.Failed got names held made missed h = silent-read_fault run got (accepted run.words (name, session) names) (missed.failed refl) h
+run-no_session run name session bytes board fetch.OutOfMemory got names held made missed h = silent-memory run got (missed.quiet (λ e. cc e)) h
 
--- the session was played
-pub run-played : (run : RunAccount) (name session_name bytes session : List ℕ) (board : BoardParts) (got : Status) → names_of run.words ≡ Some (name, session_name)
-    → IfSome run.before.depot.files (λ files. Holds files name bytes) → IfSome run.before.depot.files (λ files. Holds files session_name session) → board_of bytes ≡ Ok board
-    → NoReadFault run → NoMiss run → Ends (progress_due (session_of board session)) run.before.sink run.after.sink got → IsRun run got
-run-played run name session_name bytes session board got names held session_held made quiet found h =
-    let due : Due = progress_due (session_of board session) in
-    let is = names-due run name session_name due (λ files. Holds files name bytes × Holds files session_name session) names (both run.before.depot.files _ _ held session_held)
-    (λ files t. session-due name session_name bytes board files t.0 made ∙ file_due-held files session_name session (λ s. progress_due (session_of board s)) t.1) in
+-- the session was played, after fetches that counted no fault and no miss
+caused : (run : RunAccount) (got : Status) (before after : Sides) → IsAccepted run → before.depot.faults ≡ run.before.depot.faults → before.sink ≡ run.before.sink
+    → after.depot ≡ run.after.depot → after.sink ≡ run.after.sink → Counted got before after → HasCause run got
+caused run status.Done before after ok faults sink depot_is sink_is h = ok
+caused run status.DoneWithRefusals before after ok faults sink depot_is sink_is h = ok
+caused run status.Usage before after ok faults sink depot_is sink_is h = absurd h
+caused run status.BoardRefused before after ok faults sink depot_is sink_is h = absurd h
+caused run status.ReadFault before after ok faults sink depot_is sink_is h = (ok, rw (← faults, ← depot_is) h.0.0)
+caused run status.WriteFault before after ok faults sink depot_is sink_is h = rw (← sink, ← sink_is) h.1.0
+caused run status.Memory before after ok faults sink depot_is sink_is h = tt
+caused run status.Absent before after ok faults sink depot_is sink_is h = absurd h
+caused run status.TooLong before after ok faults sink depot_is sink_is h = absurd h
+
+fault_counts : (run : RunAccount) (got : Status) (before after : Sides) → before.depot.faults ≡ run.before.depot.faults → before.sink ≡ run.before.sink
+    → after.depot ≡ run.after.depot → after.sink ≡ run.after.sink → Counted got before after → CountsFaults run got
+fault_counts run status.Done before after faults sink depot_is sink_is h = rw (← faults, ← sink, ← depot_is, ← sink_is) (h.0, h.1)
+fault_counts run status.DoneWithRefusals before after faults sink depot_is sink_is h = rw (← faults, ← sink, ← depot_is, ← sink_is) h
+fault_counts run status.Usage before after faults sink depot_is sink_is h = absurd h
+fault_counts run status.BoardRefused before after faults sink depot_is sink_is h = absurd h
+fault_counts run status.ReadFault before after faults sink depot_is sink_is h = rw (← faults, ← sink, ← depot_is, ← sink_is) h
+fault_counts run status.WriteFault before after faults sink depot_is sink_is h = rw (← faults, ← sink, ← depot_is, ← sink_is) h
+fault_counts run status.Memory before after faults sink depot_is sink_is h = rw (← faults, ← sink, ← depot_is, ← sink_is) h
+fault_counts run status.Absent before after faults sink depot_is sink_is h = absurd h
+fault_counts run status.TooLong before after faults sink depot_is sink_is h = absurd h
+
+miss_counts : (run : RunAccount) (got : Status) (before after : Sides) → before.depot.misses ≡ run.before.depot.misses → after.depot ≡ run.after.depot → Counted got before after → CountsMisses run got
+miss_counts run status.Done before after misses depot_is h = rw (← misses, ← depot_is) h.2
+miss_counts run status.DoneWithRefusals before after misses depot_is h = tt
+miss_counts run status.Usage before after misses depot_is h = absurd h
+miss_counts run status.BoardRefused before after misses depot_is h = absurd h
+miss_counts run status.ReadFault before after misses depot_is h = tt
+miss_counts run status.WriteFault before after misses depot_is h = tt
+miss_counts run status.Memory before after misses depot_is h = tt
+miss_counts run status.Absent before after misses depot_is h = absurd h
+miss_counts run status.TooLong before after misses depot_is h = absurd h
+
+pub run-played : (run : RunAccount) (name session_name bytes session : List ℕ) (start : Session) (got : Status) (before : Sides) → names_of run.words ≡ Some (name, session_name)
+    → IfSome run.before.depot.files (λ files. Holds files name bytes) → IfSome run.before.depot.files (λ files. Holds files session_name session) → csv_session standard bytes ≡ Ok start
+    → before.depot.files ≡ run.before.depot.files → before.depot.faults ≡ run.before.depot.faults → before.depot.misses ≡ run.before.depot.misses → before.sink ≡ run.before.sink
+    → Counted got before (record { depot = run.after.depot; sink = run.after.sink })
+    → IfSome before.depot.files (λ files. Plays files start session before.sink run.after.sink got) → IsRun run got
+run-played run name session_name bytes session start got before names held session_held made files faults misses sink counted plays =
+    let after : Sides = record { depot = run.after.depot; sink = run.after.sink } in
     let ok = accepted run.words (name, session_name) names in
-    let none = nat_eq (session_of board session).refusals 0 in
-    let cause : HasCause run due.status = elim none as (λ b. HasCause run (cond b status.Done status.DoneWithRefusals)) [ true ↦ ok | false ↦ ok ] in
-    let told : NoWriteFault run → CountsFaults run due.status = λ w. elim none as (λ b. CountsFaults run (cond b status.Done status.DoneWithRefusals)) [ true ↦ (quiet, w) | false ↦ (quiet, w) ] in
-    let misses : CountsMisses run due.status = elim none as (λ b. CountsMisses run (cond b status.Done status.DoneWithRefusals)) [ true ↦ found | false ↦ found ] in
-    ends run due got is cause (record { faults = quiet; miss = no_miss-one run found; told = told; misses = misses }) h
+    let all = told-both run.before.depot.files _ _ held (told-both run.before.depot.files _ _ session_held (rw (files, sink) at plays)) in
+    let due : MeetsDue run got = rw names (told-due run.before.depot.files all) in
+    meets run got (caused run got before after ok faults sink refl refl counted) (fault_counts run got before after faults sink refl refl counted) (miss_counts run got before after misses refl counted) due
+  where
+    told-due : (o : Option Files) → IfSome o (λ files. Holds files name bytes × (Holds files session_name session × Plays files start session run.before.sink run.after.sink got))
+        → IfSome (names_due (Some (name, session_name)) o) (λ due. ((got ≡ due.status) × Puts run.before.sink run.after.sink due.text) ⊎ (IsStopped got × PutsPart run.before.sink run.after.sink due.text))
+    told-due None t = tt
+    told-due (Some files) t =
+        let is = session-due name session_name bytes start files t.0 made ∙ file_due-held files session_name session (λ s. progress_due (session_of files start s)) t.1.0 in
+        subst (λ due. ((got ≡ due.status) × Puts run.before.sink run.after.sink due.text) ⊎ (IsStopped got × PutsPart run.before.sink run.after.sink due.text)) (sym is) t.1.1

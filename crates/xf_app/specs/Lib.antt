@@ -1,11 +1,7 @@
-pub mod Board
-pub mod BoardParts
 pub mod Due
 pub mod Ends
+pub mod Lines
 pub mod Page
 pub mod Put
 pub mod Run
-pub mod Script
-pub mod Session
-pub mod Standard
 pub mod Words

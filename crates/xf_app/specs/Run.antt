@@ -1,16 +1,17 @@
 -- What each status says of a run, and the headline.
 use Rattle.std.specs.Prelude.{◌≡◌, ◌⊎◌, ℕ, ◌+◌, ◌≤◌, List, length, Some, None, IsSome, IfSome, Ok, ⊤}
 use Rattle.std.specs.FinMap.{get}
-use Rattle.xf_app.specs.Board.{board_of}
-use Rattle.xf_app.specs.BoardParts.{BoardParts}
 use Rattle.xf_app.specs.Due.{due_of, session_of}
 use Rattle.xf_app.specs.Put.{Puts, PutsPart}
 use Rattle.xf_app.specs.Words.{names_of}
 use Rattle.xf_app.specs.declared.status.Status.{Status}
 use Rattle.xf_app.specs.declared.status.Status.TheVariants as status
+use Rattle.xf_base.specs.Bounds.{standard}
 use Rattle.xf_base.specs.declared.limits.TheConstants.Limits.{FILE_BYTES}
 use Rattle.xf_outside.specs.Account.{DepotAccount, Files, SinkAccount}
 use Rattle.xf_outside.specs.Count.{Rose, RoseExactly}
+use Rattle.xf_session.specs.Start.{csv_session}
+use Rattle.xf_session.specs.State.{Session}
 
 -- what stands outside a run: what its depot and its sink tell
 pub record Outside : Type 0 where
@@ -56,7 +57,7 @@ HasCause run status.Done = IsAccepted run
 HasCause run status.DoneWithRefusals = IsAccepted run
 HasCause run status.Usage = names_of run.words ≡ None
 HasCause run status.BoardRefused = IsAccepted run
-HasCause run status.ReadFault = IsAccepted run × ReadingFailed run × (run.after.sink ≡ run.before.sink)
+HasCause run status.ReadFault = IsAccepted run × ReadingFailed run
 HasCause run status.WriteFault = WritingFailed run
 HasCause run status.Memory = ⊤
 HasCause run status.Absent = IsAccepted run × Rose run.before.depot.misses run.after.depot.misses 1
@@ -82,15 +83,16 @@ NoMiss run = run.after.depot.misses ≡ run.before.depot.misses
 abbrev pub OneMiss : RunAccount → Type 0
 OneMiss run = run.after.depot.misses ≤ run.before.depot.misses + 1
 
--- no name was missed but the one that `Absent` tells, which was asked for once; its line may not have been put whole
+-- no name was missed where no step was refused, and before the session none but the one that `Absent` tells; its line may
+-- not have been put whole. A refused `load` may have missed its file.
 abbrev pub CountsMisses : RunAccount → Status → Type 0
 CountsMisses run status.Done = NoMiss run
-CountsMisses run status.DoneWithRefusals = NoMiss run
+CountsMisses run status.DoneWithRefusals = ⊤
 CountsMisses run status.Usage = NoMiss run
 CountsMisses run status.BoardRefused = NoMiss run
-CountsMisses run status.ReadFault = NoMiss run
-CountsMisses run status.WriteFault = OneMiss run
-CountsMisses run status.Memory = OneMiss run
+CountsMisses run status.ReadFault = ⊤
+CountsMisses run status.WriteFault = ⊤
+CountsMisses run status.Memory = ⊤
 CountsMisses run status.Absent = OneMiss run
 CountsMisses run status.TooLong = NoMiss run
 
@@ -113,8 +115,8 @@ Holds files name bytes = (get files name ≡ Some bytes) × (length bytes ≤ FI
 -- refused, the bytes put are the session's text
 abbrev pub Headline : RunAccount → Status → Type 0
 Headline run got =
-    (name session_name bytes session : List ℕ) (files : Files) (board : BoardParts)
+    (name session_name bytes session : List ℕ) (files : Files) (start : Session)
     → names_of run.words ≡ Some (name, session_name) → run.before.depot.files ≡ Some files
-    → Holds files name bytes → board_of bytes ≡ Ok board → Holds files session_name session
+    → Holds files name bytes → csv_session standard bytes ≡ Ok start → Holds files session_name session
     → (ReadingFailed run → ⊥) → (WritingFailed run → ⊥) → (got ≡ status.Memory → ⊥)
-    → Puts run.before.sink run.after.sink (session_of board session).text
+    → Puts run.before.sink run.after.sink (session_of files start session).text

@@ -1,13 +1,13 @@
 //! What a run puts, and how it ends with that.
-ghost use Rattle.std.specs.Prelude.{◌≡◌, ◌≢◌, IfErr, IfOk, OnOk};
-ghost use Rattle.xf_app.specs.Due.{absent_line, refused_line, too_long_line};
-ghost use Rattle.xf_app.specs.Ends.{Ends, EndsRefused, EndsUnfetched, PutsWhole, StopsIn};
+ghost use Rattle.std.specs.Prelude.{◌≡◌, IfErr, IfOk, OnOk};
+ghost use Rattle.xf_app.specs.Due.{absent_line, refused_due, refused_line, too_long_line};
+ghost use Rattle.xf_app.specs.Ends.{Ends, EndsUnfetched, PutsWhole, StopsIn};
 
-use crate::board::BoardFault;
 use crate::status::Status;
 use std::alloc::Global;
 use xf_base::{Limits, OutOfMemory, put_number, put_word};
 use xf_outside::{FetchFault, PutFault, Sink};
+use xf_reply::{Refusal, put_refusal};
 
 /// Puts a text, or gives the status with which the run ends.
 pub fn put<S: Sink>(sink: &mut S, text: &[u8]) -> Result<(), Status>
@@ -32,10 +32,10 @@ pub fn tell<S: Sink>(sink: &mut S, line: &[u8], status: Status) -> Status
 }
 
 /// Ends the run where the board is refused.
-pub fn tell_refused<S: Sink>(alloc: Global, sink: &mut S, fault: BoardFault) -> Status
-    ensures { EndsRefused fault (S.account sink.old) (S.account sink.new) result }
+pub fn tell_refused<S: Sink>(alloc: Global, sink: &mut S, cause: &Refusal) -> Status
+    ensures { Ends (refused_due cause.now) (S.account sink.old) (S.account sink.new) result }
 {
-    match refused_line(alloc, fault) {
+    match refused_line(alloc, cause) {
         Ok(line) => tell(sink, line.as_slice(), Status::BoardRefused),
         Err(OutOfMemory) => Status::Memory,
     }
@@ -57,31 +57,12 @@ pub fn tell_unfetched<S: Sink>(alloc: Global, sink: &mut S, name: &str, fault: F
     }
 }
 
-/// The line of a refused board; memory that was refused has none.
-fn refused_line(alloc: Global, fault: BoardFault) -> Result<Vec<u8>, OutOfMemory>
-    ensures { IfOk result (λ line. (fault ≢ BoardFault.OutOfMemory) × (line.items ≡ refused_line fault)) }
+/// The line of a refused board.
+fn refused_line(alloc: Global, cause: &Refusal) -> Result<Vec<u8>, OutOfMemory>
+    ensures { IfOk result (λ line. line.items ≡ refused_line cause.now) }
 {
     let mut line = Vec::from_slice(alloc, b"board refused ")?;
-    match fault {
-        BoardFault::NoHeader => line.extend_from_slice(b"no header")?,
-        BoardFault::UnevenRecord { number } => {
-            line.extend_from_slice(b"uneven record ")?;
-            put_number(&mut line, number)?;
-        }
-        BoardFault::TooManyRecords { more } => {
-            line.extend_from_slice(b"too many records 0 ")?;
-            put_number(&mut line, more)?;
-            line.push(b' ')?;
-            put_number(&mut line, Limits::ROWS)?;
-        }
-        BoardFault::TooManyEntries { more } => {
-            line.extend_from_slice(b"too many entries 0 ")?;
-            put_number(&mut line, more)?;
-            line.push(b' ')?;
-            put_number(&mut line, Limits::ENTRIES)?;
-        }
-        BoardFault::OutOfMemory => return Err(OutOfMemory),
-    }
+    put_refusal(&mut line, cause)?;
     line.push(b'\n')?;
     Ok(line)
 }

@@ -4,15 +4,15 @@ ghost use Rattle.xf_app.specs.Ends.{IsRun};
 ghost use Rattle.xf_app.specs.Run.{CountsFaults, CountsMisses, HasCause, Headline, MeetsDue, run_account};
 ghost use Rattle.xf_app.specs.Words.{names_of};
 
-use crate::board::read_board;
 use crate::output::{tell, tell_refused, tell_unfetched};
-use crate::replay::play;
+use crate::replay::replay;
 use crate::status::Status;
 use crate::words::names_of;
 use std::alloc::Global;
 use std::sync::ledger::Ledger;
 use xf_base::{Limits, Steps};
 use xf_outside::{Depot, Sink};
+use xf_session::{CsvStart, Session};
 
 const USAGE: &[u8] = b"usage: xf [--view page|data] [--demo N] BOARD SESSION\n";
 
@@ -71,14 +71,15 @@ fn answer<D: Depot, S: Sink, L: Ledger>(
         Ok(bytes) => bytes,
         Err(fault) => return tell_unfetched(alloc, sink, board_name, fault),
     };
-    let board = match read_board(alloc, bytes.as_slice()) {
-        Ok(board) => board,
-        Err(fault) => return tell_refused(alloc, sink, fault),
+    let start = match Session::from_csv(alloc, bytes.as_slice(), Limits::standard()) {
+        Ok(start) => start,
+        Err(CsvStart::Refused(cause)) => return tell_refused(alloc, sink, &cause),
+        Err(CsvStart::OutOfMemory) => return Status::Memory,
     };
     drop(bytes);
     let session = match depot.fetch(alloc, session_name, Limits::FILE_BYTES) {
         Ok(session) => session,
         Err(fault) => return tell_unfetched(alloc, sink, session_name, fault),
     };
-    play(alloc, board, session.as_slice(), sink, steps)
+    replay(alloc, start, session.as_slice(), depot, sink, steps)
 }

@@ -2,6 +2,7 @@
 mod cell;
 mod file;
 mod record;
+mod sheet;
 
 use std::alloc::Global;
 use std::fmt::Write;

@@ -159,7 +159,7 @@ fn gives_distinct_keys(rt: HostRuntime) -> Result<(), Fail> {
     laws::group_values::<u8, u8, u8>();
     laws::least_keys::<u8, u8>();
     laws::moved_keys::<u8, u8>();
-    laws::replayed_lines::<u8, u8>();
+    laws::replayed_lines::<u8, u8, u8, u8>();
     Ok(())
 }
 

@@ -184,20 +184,20 @@ MovesToAll Row Key =
 -- ---- sessions
 
 -- a session goes on from where its first lines have brought it
-abbrev pub ReplayGoesOn : Type 0 → Type 0 → Type 0
-ReplayGoesOn State Line =
-    (command : State → Line → Outcome State) (view : State → List ℕ) (state : State) (xs ys : List Line)
-    → replay command view state (xs ++ ys)
-    ≡ fold (λ so_far line. progress_after view so_far (command so_far.state line)) (replay command view state xs) ys
+abbrev pub ReplayGoesOn : Type 0 → Type 0 → Type 0 → Type 0 → Type 0
+ReplayGoesOn State Cause Answer Line =
+    (command : State → Line → Outcome State Cause Answer) (written : ℕ → Outcome State Cause Answer → List ℕ) (state : State) (xs ys : List Line)
+    → replay command written state (xs ++ ys)
+    ≡ fold (λ so_far line. progress_after written so_far (command so_far.state line)) (replay command written state xs) ys
 
 -- the text of its first lines begins the text of all
-abbrev pub TextBegins : Type 0 → Type 0 → Type 0
-TextBegins State Line =
-    (command : State → Line → Outcome State) (view : State → List ℕ) (state : State) (xs ys : List Line)
-    → (rest : List ℕ) × (session_text command view state (xs ++ ys) ≡ session_text command view state xs ++ rest)
+abbrev pub TextBegins : Type 0 → Type 0 → Type 0 → Type 0 → Type 0
+TextBegins State Cause Answer Line =
+    (command : State → Line → Outcome State Cause Answer) (written : ℕ → Outcome State Cause Answer → List ℕ) (state : State) (xs ys : List Line)
+    → (rest : List ℕ) × (session_text command written state (xs ++ ys) ≡ session_text command written state xs ++ rest)
 
 -- no more steps are refused than there are
-abbrev pub FewAreRefused : Type 0 → Type 0 → Type 0
-FewAreRefused State Line =
-    (command : State → Line → Outcome State) (view : State → List ℕ) (state : State) (lines : List Line)
-    → (replay command view state lines).refusals ≤ (replay command view state lines).number
+abbrev pub FewAreRefused : Type 0 → Type 0 → Type 0 → Type 0 → Type 0
+FewAreRefused State Cause Answer Line =
+    (command : State → Line → Outcome State Cause Answer) (written : ℕ → Outcome State Cause Answer → List ℕ) (state : State) (lines : List Line)
+    → (replay command written state lines).refusals ≤ (replay command written state lines).number

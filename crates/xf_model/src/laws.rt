@@ -61,8 +61,8 @@ pub fn moved_keys<Row, Key>()
 
 /// A session goes on from where its first lines have brought it: their text begins the text of all. No more steps are
 /// refused than there are.
-pub fn replayed_lines<State, Line>()
-    ensures continued { ReplayGoesOn State Line }
-    ensures begun { TextBegins State Line }
-    ensures refusals { FewAreRefused State Line }
+pub fn replayed_lines<State, Cause, Answer, Line>()
+    ensures continued { ReplayGoesOn State Cause Answer Line }
+    ensures begun { TextBegins State Cause Answer Line }
+    ensures refusals { FewAreRefused State Cause Answer Line }
 {}

@@ -58,6 +58,9 @@ const FILES: &[(&str, &[u8])] = &[
     (".csv", BOARD),
     ("empty.csv", b""),
     ("uneven.csv", b"a,b\n1\n"),
+    ("load.txt", b"filter a range 2 3\nload more.csv\nsize\n"),
+    ("more.csv", b"b,a\n40,2\n"),
+    ("gone.txt", b"load gone.csv\nload \"\"\n"),
 ];
 
 /// What a run is given, and what it must give.

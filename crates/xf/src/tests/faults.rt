@@ -23,6 +23,42 @@ step 3 ok moved 1
 records 3 passing 1
 who";
 
+/// A filter, a file of one record that is loaded, and a question.
+const LOADED: &str = "step 1 ok moved 1
+records 3 passing 2
+whole all 2
+group a 2
+  1 1
+  2 2
+group b 3
+  10 0
+  20 1
+  30 1
+step 2 ok added 1
+records 4 passing 3
+whole all 3
+group a 2
+  1 1
+  2 3
+group b 4
+  10 0
+  20 1
+  30 1
+  40 1
+step 3 ok
+  4
+records 4 passing 3
+whole all 3
+group a 2
+  1 1
+  2 3
+group b 4
+  10 0
+  20 1
+  30 1
+  40 1
+";
+
 /// A name, the words with a bar between them, the status, and what is written.
 static ABSENT: [(&str, &str, u8, &str); 7] = [
     ("an absent board", "c.csv|s.txt", 7, "absent c.csv\n"),
@@ -48,7 +84,28 @@ static ABSENT: [(&str, &str, u8, &str); 7] = [
 type Failing = (u64, (u64, u64));
 
 /// A name, the words, the calls that fail, the status, and what is written.
-static FAULTS: [(&str, &str, Failing, u8, &str); 15] = [
+static FAULTS: [(&str, &str, Failing, u8, &str); 18] = [
+    (
+        "a file that a step loads",
+        "b.csv|load.txt",
+        (0, (0, 0)),
+        0,
+        LOADED,
+    ),
+    (
+        "a file that a step loads and that cannot be read, after which nothing is done",
+        "b.csv|load.txt",
+        (3, (0, 0)),
+        4,
+        FIRST_STEP,
+    ),
+    (
+        "files that steps load and that are absent",
+        "b.csv|gone.txt",
+        (0, (0, 0)),
+        1,
+        "step 1 refused 15 absent gone.csv\nstep 2 refused 15 absent \"\"\n",
+    ),
     (
         "a board that cannot be read",
         "b.csv|s.txt",
@@ -196,7 +253,7 @@ fn refuses_long_files(rt: HostRuntime) -> Result<(), Fail> {
             BOARD,
             &long[1..],
             1,
-            "step 1 refused 3 unknown verb\n",
+            "step 1 refused 1 line too long 134217728\n",
         ),
     ] {
         let case = Case {

@@ -46,7 +46,7 @@ group b 3
 ";
 
 /// A name, the board of most cases, a session on it, and what is written.
-static READ: [(&str, &[u8], &[u8], &str); 11] = [
+static READ: [(&str, &[u8], &[u8], &str); 13] = [
     ("a step", BOARD, b"filter a range 2 3\n", FIRST_STEP),
     (
         "a step without LF",
@@ -93,10 +93,22 @@ static READ: [(&str, &[u8], &[u8], &str); 11] = [
         b"\n\n  \t\n# a\n\t # b\r\n#filter a range 2 3\n\r\n",
         "",
     ),
+    (
+        "words between quotes",
+        BOARD,
+        b"\"filter\" \"a\" range 2 \"3\"",
+        FIRST_STEP,
+    ),
+    (
+        "letters above 127 and quotes in comments",
+        BOARD,
+        b"# \xC3\xA4\n# \"\n",
+        "",
+    ),
 ];
 
 /// The same, of sessions in which a line is refused.
-static REFUSED: [(&str, &[u8], &[u8], &str); 36] = [
+static REFUSED: [(&str, &[u8], &[u8], &str); 33] = [
     ("a verb that there is not", BOARD, b"fly", UNKNOWN_VERB),
     (
         "a byte order mark before it",
@@ -116,31 +128,61 @@ static REFUSED: [(&str, &[u8], &[u8], &str); 36] = [
         b"fly\n#\nfly",
         UNKNOWN_VERBS,
     ),
-    ("a verb alone", BOARD, b"filter", UNKNOWN_VERB),
-    ("another verb alone", BOARD, b"clear", UNKNOWN_VERB),
-    ("two columns to clear", BOARD, b"clear a b", UNKNOWN_VERB),
-    ("two words of a filter", BOARD, b"filter a", UNKNOWN_VERB),
+    (
+        "a verb alone",
+        BOARD,
+        b"filter",
+        "step 1 refused 4 bad word 2\n",
+    ),
+    (
+        "another verb alone",
+        BOARD,
+        b"clear",
+        "step 1 refused 4 bad word 2\n",
+    ),
+    (
+        "two columns to clear",
+        BOARD,
+        b"clear a b",
+        "step 1 refused 4 bad word 3\n",
+    ),
+    (
+        "two words of a filter",
+        BOARD,
+        b"filter a",
+        "step 1 refused 4 bad word 3\n",
+    ),
     (
         "three words of a filter",
         BOARD,
         b"filter a range",
-        UNKNOWN_VERB,
+        "step 1 refused 4 bad word 4\n",
     ),
-    ("four words", BOARD, b"filter a range 2", UNKNOWN_VERB),
+    (
+        "four words",
+        BOARD,
+        b"filter a range 2",
+        "step 1 refused 4 bad word 5\n",
+    ),
     (
         "clear before a range",
         BOARD,
         b"clear a range 2 3",
-        UNKNOWN_VERB,
+        "step 1 refused 4 bad word 3\n",
     ),
     ("clear with a capital", BOARD, b"Clear a", UNKNOWN_VERB),
     ("a longer word than clear", BOARD, b"clears a", UNKNOWN_VERB),
-    ("six words", BOARD, b"filter a range 2 3 4", UNKNOWN_VERB),
+    (
+        "six words",
+        BOARD,
+        b"filter a range 2 3 4",
+        "step 1 refused 4 bad word 6\n",
+    ),
     (
         "another word for range",
         BOARD,
         b"filter a only 2 3",
-        UNKNOWN_VERB,
+        "step 1 refused 4 bad word 3\n",
     ),
     (
         "a verb with a capital",
@@ -149,24 +191,11 @@ static REFUSED: [(&str, &[u8], &[u8], &str); 36] = [
         UNKNOWN_VERB,
     ),
     (
-        "a quoted column",
-        BOARD,
-        b"filter \"a\" range 2 3",
-        UNKNOWN_VERB,
-    ),
-    (
-        "a byte above 127",
+        "a letter above 127",
         BOARD,
         b"filter \xC3\xA4 range 2 3",
-        UNKNOWN_VERB,
+        "step 1 refused 6 no dimension \u{e4}\n",
     ),
-    (
-        "a byte above 127 in a comment",
-        BOARD,
-        b"# \xC3\xA4",
-        UNKNOWN_VERB,
-    ),
-    ("a quote in a comment", BOARD, b"# \"", UNKNOWN_VERB),
     (
         "two byte order marks",
         BOARD,
@@ -226,13 +255,13 @@ static REFUSED: [(&str, &[u8], &[u8], &str); 36] = [
         "a shorter word for range",
         BOARD,
         b"filter a rang 2 3",
-        UNKNOWN_VERB,
+        "step 1 refused 4 bad word 3\n",
     ),
     (
         "a column that is not UTF-8",
         BOARD,
         b"filter \xFF range 2 3",
-        UNKNOWN_VERB,
+        "step 1 refused 2 not text 7\n",
     ),
     (
         "a CR without LF",
@@ -273,7 +302,12 @@ fn refuses_lines(rt: HostRuntime) -> Result<(), Fail> {
 /// A name, how many bytes a step has with the blanks after it, the status, and what is written.
 static LONG: [(&str, usize, u8, &str); 2] = [
     ("the longest line", 65_536, 0, FIRST_STEP),
-    ("a line with a byte more", 65_537, 1, UNKNOWN_VERB),
+    (
+        "a line with a byte more",
+        65_537,
+        1,
+        "step 1 refused 1 line too long 65537\n",
+    ),
 ];
 
 #[test]

@@ -23,7 +23,7 @@ fn flights(alloc: Global) -> Result<Schema, Fail> {
 }
 
 /// Each row with a semicolon after it, a blank between its cells.
-fn rows_shown(alloc: Global, rows: &RowList) -> Result<String, Fail> {
+pub fn rows_shown(alloc: Global, rows: &RowList) -> Result<String, Fail> {
     let mut text = String::new(alloc);
     for row in rows.as_slice() {
         for (place, cell) in row.as_slice().iter().enumerate() {

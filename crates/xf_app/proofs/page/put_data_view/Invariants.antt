@@ -1,10 +1,12 @@
-use Rattle.std.proofs.Common.{◌≡◌, ◌++◌, drop}
-use Rattle.std.specs.List.{enumerate_from}
-use Rattle.xf_app.specs.Page.{groups_lines}
+use Rattle.std.proofs.Common.{◌≡◌, ◌++◌, take}
+use Rattle.std.specs.List.{flat_map}
+use Rattle.xf_access.specs.Stock.{keys_of_row}
+use Rattle.xf_app.specs.Page.{whole_line}
+use Rattle.xf_engine.specs.Answers.{whole_count}
+use Rattle.xf_filter.specs.Stock.{stock_says}
 use Rattle.xf_app.proofs.page.put_data_view.Given as goal
 
--- what is written so far, with the groups to come, is what stood before with all groups
+-- the lines of the wholes so far
 abbrev pub invariant-loop-place : goal.invariant-loop-place
 invariant-loop-place g l =
-    l.out.items ++ groups_lines l.standard (enumerate_from l.place (drop l.place l.standard.columns))
-    ≡ l.initial.out.items ++ groups_lines l.standard (enumerate_from 0 l.standard.columns)
+    l.out.items ≡ l.initial.out.items ++ flat_map (whole_line (whole_count keys_of_row stock_says l.session.cross)) (take l.place l.session.wholes)

@@ -1,6 +1,0 @@
--- a word of ASCII is UTF-8
-use Rattle.std.proofs.lemmas.Str.{IsUtf8-from_ascii}
-use Rattle.xf_app.proofs.script.text_of_word.Goals as goal
-
-pub unreachable-requires : goal.unreachable-requires
-unreachable-requires c = c.in-Err.ensures.cases.0 (IsUtf8-from_ascii c.args.word.now c.requires)

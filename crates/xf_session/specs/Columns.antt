@@ -1,0 +1,114 @@
+-- What the words for accessors and roundings name, and which columns they take.
+use Rattle.std.specs.Prelude.{ℕ, ◌<◌, ◌^◌, ⊤, Bool, true, false, List, [], ◌∷◌, Option, Some, None, unwrap_or, is_none, is_some, pos, if◌then◌else◌}
+use Rattle.xf_access.specs.Stock.{is_of_dates, is_of_tags, kind_at}
+use Rattle.xf_access.specs.declared.stock_accessor.StockAccessor.{StockAccessor}
+use Rattle.xf_access.specs.declared.stock_accessor.StockAccessor.TheVariants as stock
+use Rattle.xf_access.specs.declared.stock_rounding.StockRounding.{StockRounding}
+use Rattle.xf_access.specs.declared.stock_rounding.StockRounding.TheVariants.{Same, Floor, MonthOf, YearOf, FirstLetters}
+use Rattle.xf_base.specs.Schema.{place_of}
+use Rattle.xf_base.specs.declared.column.Column.{Column}
+use Rattle.xf_base.specs.declared.column.ColumnKind.{ColumnKind}
+use Rattle.xf_base.specs.declared.column.ColumnKind.TheVariants as kind
+use Rattle.xf_base.specs.declared.form.AtomForm.{AtomForm}
+use Rattle.xf_base.specs.declared.form.AtomForm.TheVariants as atom
+use Rattle.xf_base.specs.declared.form.KeyForm.{KeyForm}
+use Rattle.xf_base.specs.declared.form.KeyForm.TheVariants.{One, Pair}
+use Rattle.xf_reply.specs.declared.refusal.Refusal.{Refusal}
+use Rattle.xf_reply.specs.declared.refusal.Refusal.TheVariants.{NoColumn, WrongColumn}
+use Rattle.xf_script.specs.declared.words.AccessorWords.{AccessorWords}
+use Rattle.xf_script.specs.declared.words.AccessorWords.TheVariants as accessor
+use Rattle.xf_script.specs.declared.words.RoundingWords.{RoundingWords}
+use Rattle.xf_script.specs.declared.words.RoundingWords.TheVariants as rounding
+
+-- the form of a column's cells as keys; tags are many
+abbrev pub form_of_column : Option ColumnKind → Option AtomForm
+form_of_column (Some kind.Int) = Some (atom.Fixed 0)
+form_of_column (Some (kind.Fixed decimals)) = Some (atom.Fixed decimals)
+form_of_column (Some kind.Date) = Some atom.Date
+form_of_column (Some kind.Text) = Some atom.Text
+form_of_column (Some (kind.Tags separator)) = None
+form_of_column None = None
+
+-- ---- accessors
+
+-- the place of a column of a name; 0 where there is none
+abbrev pub column_at : List Column → List ℕ → ℕ
+column_at columns name = unwrap_or (place_of columns name) 0
+
+abbrev pub kind_named : List Column → List ℕ → Option ColumnKind
+kind_named columns name = kind_at columns (column_at columns name)
+
+abbrev pub form_named : List Column → List ℕ → AtomForm
+form_named columns name = unwrap_or (form_of_column (kind_named columns name)) atom.Text
+
+-- the accessor that words name
+abbrev pub accessor_of : List Column → AccessorWords → StockAccessor
+accessor_of columns (accessor.Column name) = stock.Column (column_at columns name) (One (form_named columns name))
+accessor_of columns (accessor.Pair first second) =
+    stock.PairOf (column_at columns first) (column_at columns second) (Pair (form_named columns first) (form_named columns second))
+accessor_of columns (accessor.Tags name) = stock.Tags (column_at columns name)
+accessor_of columns (accessor.Weekday name) = stock.Weekday (column_at columns name)
+accessor_of columns (accessor.Month name) = stock.Month (column_at columns name)
+
+-- a column is not there, or is not such as is taken
+abbrev pub no_column : List Column → List ℕ → Option Refusal
+no_column columns name = if is_none (place_of columns name) then Some (NoColumn name) else None
+
+abbrev pub wrong_column : (Option ColumnKind → Bool) → List Column → List ℕ → Option Refusal
+wrong_column takes columns name = if takes (kind_named columns name) then None else Some (WrongColumn name)
+
+-- a column whose cells are keys
+abbrev pub is_plain : Option ColumnKind → Bool
+is_plain column = is_some (form_of_column column)
+
+-- why an accessor does not fit, its columns from left to right
+abbrev pub accessor_causes : List Column → AccessorWords → List (Option Refusal)
+accessor_causes columns (accessor.Column name) = no_column columns name ∷ wrong_column is_plain columns name ∷ []
+accessor_causes columns (accessor.Pair first second) =
+    no_column columns first ∷ wrong_column is_plain columns first ∷ no_column columns second ∷ wrong_column is_plain columns second ∷ []
+accessor_causes columns (accessor.Tags name) = no_column columns name ∷ wrong_column is_of_tags columns name ∷ []
+accessor_causes columns (accessor.Weekday name) = no_column columns name ∷ wrong_column is_of_dates columns name ∷ []
+accessor_causes columns (accessor.Month name) = no_column columns name ∷ wrong_column is_of_dates columns name ∷ []
+
+-- ---- roundings
+
+-- a width of 15 digits at most
+abbrev pub IsWidth : RoundingWords → Type 0
+IsWidth rounding.Same = ⊤
+IsWidth (rounding.Floor width) = width < 10 ^ 15
+IsWidth rounding.Month = ⊤
+IsWidth rounding.Year = ⊤
+IsWidth (rounding.Letters count) = ⊤
+
+abbrev pub rounding_of : RoundingWords → StockRounding
+rounding_of rounding.Same = Same
+rounding_of (rounding.Floor width) = Floor (pos width)
+rounding_of rounding.Month = MonthOf
+rounding_of rounding.Year = YearOf
+rounding_of (rounding.Letters count) = FirstLetters count
+
+abbrev pub is_fixed : KeyForm → Bool
+is_fixed (One (atom.Fixed decimals)) = true
+is_fixed (One atom.Date) = false
+is_fixed (One atom.Text) = false
+is_fixed (Pair first second) = false
+
+abbrev pub is_date : KeyForm → Bool
+is_date (One (atom.Fixed decimals)) = false
+is_date (One atom.Date) = true
+is_date (One atom.Text) = false
+is_date (Pair first second) = false
+
+abbrev pub is_text : KeyForm → Bool
+is_text (One (atom.Fixed decimals)) = false
+is_text (One atom.Date) = false
+is_text (One atom.Text) = true
+is_text (Pair first second) = false
+
+-- whether a rounding applies to keys of a form
+abbrev pub applies : StockRounding → KeyForm → Bool
+applies Same form = true
+applies (Floor width) form = is_fixed form
+applies MonthOf form = is_date form
+applies YearOf form = is_date form
+applies (FirstLetters count) form = is_text form

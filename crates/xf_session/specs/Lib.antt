@@ -1,0 +1,10 @@
+pub mod Arrivals
+pub mod Asked
+pub mod Columns
+pub mod Command
+pub mod Does
+pub mod Filtering
+pub mod Outcome
+pub mod Refused
+pub mod Start
+pub mod State

@@ -1,0 +1,111 @@
+//! A session within low limits: what its lines are, what it must write, and the comparison of the two.
+ghost use Rattle.std.specs.Prelude.{◌≡◌, ◌<◌};
+
+use std::alloc::Global;
+use std::marker::Brand;
+use std::process::Abort;
+use std::sync::ledger::{Blank, Ledger};
+use std::test::Fail;
+use xf_base::{Limits, OutOfMemory, Steps, Text};
+use xf_outside::MemoryDepot;
+use xf_reply::{Reply, put_refusal, put_step};
+use xf_session::{CsvStart, Session};
+
+/// The board of most cases.
+pub(crate) const BOARD: &[u8] = b"a,b\n1,10\n2,20\n2,30\n";
+
+/// A name, a board, the lines of a session, and what is written for its steps.
+pub(crate) type Case = (&'static str, &'static [u8], &'static [u8], &'static str);
+
+/// The files that a session may load.
+static FILES: [(&str, &[u8]); 9] = [
+    ("one.csv", b"b,c,a\n40,x,4\n"),
+    ("two.csv", b"a,b\n3,1\n4,2\n"),
+    ("three.csv", b"a,b\n3,1\n4,2\n5,3\n"),
+    ("none.csv", b"a,b\n"),
+    ("empty.csv", b""),
+    ("other.csv", b"a,c\n1,2\n"),
+    ("uneven.csv", b"a,b\n3,1\n4\nx,1\n"),
+    ("bad.csv", b"a,b\n3,1\n4,x\n5\n"),
+    (
+        "long.csv",
+        b"a,b\n00000000000000000000000000000000000001,2\n",
+    ),
+];
+
+/// Limits that a few lines reach: 32 dimensions, 33 groups with wholes, 5 records, 8 entries, 40 bytes of a file.
+fn low_limits() -> Limits {
+    Limits {
+        groups: 33,
+        rows: 5,
+        entries: 8,
+        file_bytes: 40,
+        ..Limits::standard()
+    }
+}
+
+fn depot_of(alloc: Global) -> Result<MemoryDepot, Fail> {
+    let mut held = Vec::new(alloc);
+    for (name, bytes) in &FILES {
+        held.push((Text::of(alloc, name)?, bytes.to_vec(alloc)?))?;
+    }
+    Ok(MemoryDepot::new(held, Vec::new(alloc)))
+}
+
+/// What is written for the lines of a session on a board, without the views behind the accepted ones; for a board that is
+/// refused, the words of its cause.
+fn written<L: Ledger>(
+    rt: &impl Abort,
+    alloc: Global,
+    board: &[u8],
+    lines: &[u8],
+    steps: &mut Steps<L>,
+) -> Result<Vec<u8>, Fail> {
+    let limits = low_limits();
+    assert!(rt; limits.dimensions >= 32 && limits.groups >= 33);
+    let mut out = Vec::new(alloc);
+    let mut session = match Session::from_csv(alloc, board, limits) {
+        Ok(session) => session,
+        Err(CsvStart::Refused(cause)) => {
+            put_refusal(&mut out, &cause)?;
+            return Ok(out);
+        }
+        Err(CsvStart::OutOfMemory) => return Err(OutOfMemory.into()),
+    };
+    let mut depot = depot_of(alloc)?;
+    let mut number: u64 = 0;
+    for line in lines.split(|byte| *byte == b'\n') {
+        let reply = session.apply(line, &mut depot, steps)?;
+        if !matches!(reply, Reply::Skipped) {
+            number = number.saturating_add(1);
+        }
+        put_step(&mut out, number, &reply)?;
+    }
+    Ok(out)
+}
+
+/// Runs each session on its board, and compares what is written. A case is a name, a board, the lines of a session, and what
+/// is written for its steps.
+pub(crate) fn see(rt: &impl Abort, alloc: Global, cases: &'static [Case]) -> Result<(), Fail> {
+    see_counted::<Brand>(rt, alloc, cases, Blank::new(1))
+}
+
+/// The same, in the ledger that the blank becomes.
+fn see_counted<L: Ledger>(
+    rt: &impl Abort,
+    alloc: Global,
+    cases: &'static [Case],
+    blank: Blank,
+) -> Result<(), Fail>
+    requires name { blank.name ≡ L.name }
+    requires parts { blank.parts ≡ L.parts }
+    requires some { 0 < blank.parts }
+{
+    let mut steps = Steps::<L>::new(blank);
+    for (name, board, lines, want) in cases {
+        let found = written(rt, alloc, board, lines, &mut steps)?;
+        let found = str::from_utf8(found.as_slice())?;
+        assert_eq!(rt; found, *want, "{name}");
+    }
+    Ok(())
+}

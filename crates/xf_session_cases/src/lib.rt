@@ -1,0 +1,12 @@
+//! What no clause of the session says: lines in turn and what is written for each, by hand from the rules.
+//!
+//! It stands on the session, replies and the outside, and has nothing but tests, which cost a crate that it is proved once
+//! more. Its one promise: each session of the tables gives exactly the text beside it.
+#![tactic(auto)]
+
+#[cfg(test)]
+mod case;
+#[cfg(test)]
+mod refusals;
+#[cfg(test)]
+mod steps;
