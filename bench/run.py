@@ -2,12 +2,15 @@
 """Times the program on made CSV files.
 
 usage: bench/run.py PROGRAM [RECORDS ..]
+       bench/run.py --verbs PROGRAM [RECORDS ..]
        bench/run.py --make FILE RECORDS numbers|mixed
 
 For each number of records (10,000, 100,000 and 1,000,000 where none is given) it writes two files into a temporary
 folder: four columns of whole numbers, and twelve columns of all kinds with the same four among them. It runs PROGRAM on
 each with sessions of 0, 1 and 20 range filters, three times, and prints a table: the shortest wall time, the greatest
-peak memory, and the bytes written. With --make it only writes one file. It needs Python 3.8 on Linux and nothing else.
+peak memory, and the bytes written. With --verbs it runs a session of each verb instead, on four columns of whole numbers of
+which one stays as a dimension and a group, so that the dashboard behind each answer is short, and sessions of long lines and
+of many. With --make it only writes one file. It needs Python 3.8 on Linux and nothing else.
 """
 
 import os
@@ -83,6 +86,64 @@ def write_session(path, filters):
             session.write(f"filter {name} range {low} {low + values // 2}\n")
 
 
+# What stands before each session of a verb: of the four columns the one of 10 values stays.
+ALONE = "dispose dimension thousand\ndispose dimension many\ndispose dimension unique\n"
+
+# A name, and the lines of a session; MORE stands for a file of as many records, and RECORDS for their number.
+VERBS = [
+    ("nothing", ""),
+    ("one dimension left", ALONE),
+    ("filter", ALONE + "filter ten range 2 7\n"),
+    ("filter by a predicate", ALONE + "filter ten func or modulo 3 1 not oneof exact 4 range 6 8 end\n"),
+    ("toggle", ALONE + "toggle ten exact 3\n"),
+    ("clearall", ALONE + "clearall\n"),
+    ("remove passing", ALONE + "filter ten range 2 7\nremove passing\n"),
+    ("remove where", ALONE + "remove where ten exact 3\n"),
+    ("dimension and group", ALONE + "dimension d column unique\ngroup g of d floor 100000000000 count\n"),
+    ("top", ALONE + "top ten 10\n"),
+    ("bottom, all records", ALONE + "bottom ten RECORDS\n"),
+    ("records", ALONE + "records\n"),
+    ("groups", ALONE + "groups ten\n"),
+    ("value", ALONE + "value ten 3\n"),
+    ("add, behind a removal", ALONE + "remove where ten exact 3\nadd 1 2 3 4\n"),
+    ("load, half as many", ALONE + "remove where ten range 0 6\nload MORE\n"),
+]
+
+# Sessions on a board without records, which tell the cost of lines alone.
+LINES = [
+    ("1,000 notes of 65,535 bytes", ("note " + "word " * 13_106 + "\n") * 1000),
+    ("1,000,000 comments of 100 bytes", ("# " + "x" * 98 + "\n") * 1_000_000),
+]
+
+
+def measure_lines(program, folder, records, name, lines):
+    """The session of a verb. A step more has the dashboard's cost too."""
+    session = os.path.join(folder, "session.txt")
+    output = os.path.join(folder, "output.txt")
+    more = os.path.join(folder, "more.csv")
+    with open(session, "w", encoding="ascii") as text:
+        text.write(lines.replace("MORE", more).replace("RECORDS", str(records)))
+    runs = [measure(program, [os.path.join(folder, "board.csv"), session], output) for _ in range(RUNS)]
+    seconds = min(run[0] for run in runs)
+    peak = max(run[1] for run in runs)
+    return f"| {name} | {records:,} | {seconds:.3f} | {peak / 1024:.1f} | {os.path.getsize(output):,} |"
+
+
+def measure_verbs(program, sizes):
+    print("| session | records | wall time (s) | peak memory (MiB) | bytes written |")
+    print("|---|---:|---:|---:|---:|")
+    for records in sizes:
+        with tempfile.TemporaryDirectory() as folder:
+            write_board(os.path.join(folder, "board.csv"), records)
+            write_board(os.path.join(folder, "more.csv"), records // 2)
+            for name, lines in VERBS:
+                print(measure_lines(program, folder, records, name, lines), flush=True)
+    with tempfile.TemporaryDirectory() as folder:
+        write_board(os.path.join(folder, "board.csv"), 0)
+        for name, lines in LINES:
+            print(measure_lines(program, folder, 0, name, lines), flush=True)
+
+
 def measure(program, words, output):
     """The seconds and the KiB of one run."""
     with open(output, "wb") as out:
@@ -111,6 +172,9 @@ def main():
     words = sys.argv[1:]
     if len(words) == 4 and words[0] == "--make" and words[3] in FAMILIES:
         FAMILIES[words[3]](words[1], int(words[2]))
+        return
+    if len(words) > 1 and words[0] == "--verbs":
+        measure_verbs(os.path.abspath(words[1]), [int(word) for word in words[2:]] or [1_000_000])
         return
     if not words or words[0].startswith("-"):
         sys.exit(__doc__)
