@@ -11,6 +11,7 @@ use Rattle.xf_model.specs.Dimension.{Dimension, Filter, all, passes, selected}
 use Rattle.xf_model.specs.Group.{Reducer, distinct_keys, count, fold_of, group_entries, group_keys, rounded_keys, whole_value}
 use Rattle.xf_model.specs.Moved.{moved}
 use Rattle.xf_model.specs.Replay.{Outcome, progress_after, replay, session_text}
+use Rattle.xf_model.specs.Undo.{StepsSwap, UndoTakesBack}
 
 -- whether a key ties with one of a list
 abbrev pub is_among : {Key : Type 0} → (Key → Key → Ordering) → List Key → Key → Bool
@@ -132,6 +133,21 @@ SameKeysStay Row Key =
 abbrev pub RoundedKeysAscend : Type 0 → Type 0 → Type 0
 RoundedKeysAscend Row Key =
     (cmp : Key → Key → Ordering) (round : Key → Key) (keys : Row → List Key) (row : Row) → IsTotalOrder cmp → IsStrictlySortedBy cmp (rounded_keys cmp round keys row)
+
+-- ---- reducers whose steps swap
+
+-- rows in any order have the same fold
+abbrev pub FoldsAreOrderFree : Type 0 → Type 0 → Type 0
+FoldsAreOrderFree Row Value =
+    (suits : Row → Bool) (most : ℕ) (reducer : Reducer Row Value) (xs ys : List Row)
+    → StepsSwap suits most reducer → length xs ≤ most → list_all suits xs ≡ true → IsPermutation xs ys → fold_of reducer xs ≡ fold_of reducer ys
+
+-- to undo any one of the rows gives the fold of the others
+abbrev pub UndoLeavesOthers : Type 0 → Type 0 → Type 0
+UndoLeavesOthers Row Value =
+    (suits : Row → Bool) (most : ℕ) (reducer : Reducer Row Value) (undo : Value → Row → Value) (before : List Row) (row : Row) (after : List Row)
+    → StepsSwap suits most reducer → UndoTakesBack suits most reducer undo → length (before ++ row ∷ after) ≤ most → list_all suits (before ++ row ∷ after) ≡ true
+    → undo (fold_of reducer (before ++ row ∷ after)) row ≡ fold_of reducer (before ++ after)
 
 -- ---- the least keys
 

@@ -5,3 +5,4 @@ pub mod Moved
 pub mod Replay
 pub mod Laws
 pub mod Plain
+pub mod Undo

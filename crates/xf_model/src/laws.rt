@@ -1,6 +1,6 @@
 //! Laws of the definitions, for every type of rows, keys and values: each function does nothing, and its contract is
 //! the laws, which specs/Laws.antt spells out.
-ghost use Rattle.xf_model.specs.Laws.{AscendingKeysStay, BottomAscends, BottomHasPairs, CountIsLength, DisposedLeaves, EntriesLeaveOwnOut, FewAreRefused, FoldsJoin, KeysAreMembers, KeysAreOrderFree, KeysAreUnique, KeysAscend, KeysEmbed, KeysJoin, KeysStand, MovesEitherWay, MovesJoin, MovesToAll, OneMorePasses, OwnFilterIsUnseen, PairsAreUnique, ReplayGoesOn, RoundedKeysAscend, SameKeysStay, SameMovesNothing, SelectedJoin, SelectedKeep, TextBegins, TiesStay, UnfilteredSelectAll, WholeCounts};
+ghost use Rattle.xf_model.specs.Laws.{AscendingKeysStay, BottomAscends, BottomHasPairs, CountIsLength, DisposedLeaves, EntriesLeaveOwnOut, FewAreRefused, FoldsAreOrderFree, FoldsJoin, KeysAreMembers, KeysAreOrderFree, KeysAreUnique, KeysAscend, KeysEmbed, KeysJoin, KeysStand, MovesEitherWay, MovesJoin, MovesToAll, OneMorePasses, OwnFilterIsUnseen, PairsAreUnique, ReplayGoesOn, RoundedKeysAscend, SameKeysStay, SameMovesNothing, SelectedJoin, SelectedKeep, TextBegins, TiesStay, UndoLeavesOthers, UnfilteredSelectAll, WholeCounts};
 
 /// The distinct keys of a list are the set of its keys: they ascend strictly, each key of the list ties with one of
 /// them, each of them is in the list, and no other strictly ascending keys tie alike. So the order of the list does
@@ -40,6 +40,14 @@ pub fn group_values<Row, Key, Value>()
     ensures own_unseen { EntriesLeaveOwnOut Row Key Value }
     ensures unrounded { SameKeysStay Row Key }
     ensures rounded { RoundedKeysAscend Row Key }
+{}
+
+/// Where two rows change a fold alike in either order, rows in any order have the same fold. Where besides a row that was
+/// added can be taken back, to undo any one of the rows gives the fold of the others. So a reducer with both laws may be
+/// changed by the rows that come and go, in any order.
+pub fn folded_rows<Row, Value>()
+    ensures order_free { FoldsAreOrderFree Row Value }
+    ensures undone { UndoLeavesOthers Row Value }
 {}
 
 /// The least keys with the places of their rows ascend strictly, by key and then by place. They are those of the

@@ -1,0 +1,13 @@
+pub mod Laws
+pub mod Number
+pub mod Stock
+pub mod StockLaws
+pub mod NumbersLaws
+pub mod Tallies
+pub mod Pairs
+pub mod PairLaws
+pub mod Simple
+pub mod SimpleReady
+pub mod SimpleLaws
+pub mod StockReducer
+pub mod StockReducerLaws
