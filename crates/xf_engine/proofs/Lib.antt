@@ -2,7 +2,6 @@ pub mod Added
 pub mod Answered
 pub mod ById
 pub mod Cleared
-pub mod CutAt
 pub mod DroppedGroups
 pub mod EachOnce
 pub mod FreeId

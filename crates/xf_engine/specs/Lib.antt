@@ -1,4 +1,3 @@
-pub mod KeyRows
 pub mod State
 pub mod Changes
 pub mod Held

@@ -7,10 +7,10 @@ ghost use Rattle.xf_filter.specs.Filter.{filter_of};
 ghost use Rattle.xf_model.specs.Moved.{exactly_one, moved_keys};
 
 use crate::dimension::{Dimension, passes_each};
-use crate::key_rows::KeyRows;
 use xf_access::Accessor;
 use xf_base::{Key, Row};
 use xf_filter::{Filter, Predicate};
+use xf_lists::Lists;
 
 /// How many rows pass each dimension.
 pub fn passing_count<A: Accessor, P: Predicate>(dimensions: &[Dimension<A, P>], rows: &[Row]) -> u64
@@ -28,14 +28,14 @@ pub fn passing_count<A: Accessor, P: Predicate>(dimensions: &[Dimension<A, P>], 
 
 /// How much moves where one filter replaces another: for how many keys exactly one of the two filters holds, and how many
 /// rows without keys pass under exactly one of them.
-pub fn moved_count<P: Predicate>(keys: &KeyRows, old: &Filter<P>, new: &Filter<P>) -> u64
+pub fn moved_count<P: Predicate>(keys: &Lists<Key>, old: &Filter<P>, new: &Filter<P>) -> u64
     requires few { sum_by length keys.now + length keys.now < 2 ^ 64 }
     ensures moved { result ≡ sum_by (moved_keys (filter_of P.says_to old.now) (filter_of P.says_to new.now)) keys.now }
     ensures few { result ≤ sum_by length keys.now + length keys.now }
 {
     let mut count = 0;
     for place in 0..keys.len() {
-        count += moved_in_row(keys.row(place), old, new);
+        count += moved_in_row(keys.list(place), old, new);
     }
     count
 }

@@ -7,9 +7,9 @@ ghost use Rattle.xf_filter.specs.Filter.{filter_of};
 
 use crate::counts::moved_count;
 use crate::ids::DimensionId;
-use crate::key_rows::KeyRows;
 use xf_base::Key;
 use xf_filter::{Filter, Predicate};
+use xf_lists::Lists;
 
 /// A live dimension. Its keys are asked of the accessor once for each row.
 #[derive(Drop)]
@@ -17,7 +17,7 @@ pub struct Dimension<A, P> {
     pub id: DimensionId,
     pub accessor: A,
     pub filter: Filter<P>,
-    pub keys: KeyRows,
+    pub keys: Lists<Key>,
 }
 
 impl<A, P: Predicate> Dimension<A, P> {
@@ -53,7 +53,7 @@ pub fn passes<A, P: Predicate>(dimension: &Dimension<A, P>, place: usize) -> boo
     requires { place < length dimension.now.keys }
     ensures { result ≡ passes_at P.says_to place dimension.now }
 {
-    dimension.filter.is_all() || holds_any(&dimension.filter, dimension.keys.row(place))
+    dimension.filter.is_all() || holds_any(&dimension.filter, dimension.keys.list(place))
 }
 
 /// Whether the row at a place passes each dimension.

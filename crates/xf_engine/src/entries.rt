@@ -4,10 +4,10 @@ ghost use Rattle.xf_base.specs.declared.limits.TheConstants.Limits.{DIMENSIONS};
 ghost use Rattle.xf_engine.specs.Held.{HoldEach, held_count, kept_keys, retained_keys, with_keys_of};
 
 use crate::dimension::Dimension;
-use crate::key_rows::KeyRows;
 use std::alloc::Global;
 use xf_access::Accessor;
 use xf_base::{Gone, OutOfMemory, Row};
+use xf_lists::Lists;
 
 /// How many keys the dimensions hold together.
 pub fn entry_count<A, P>(dimensions: &[Dimension<A, P>]) -> u64
@@ -16,7 +16,7 @@ pub fn entry_count<A, P>(dimensions: &[Dimension<A, P>]) -> u64
 {
     let mut count = 0;
     for dimension in dimensions {
-        count += dimension.keys.key_count() as u64;
+        count += dimension.keys.item_count() as u64;
     }
     count
 }
@@ -65,10 +65,10 @@ pub fn keys_of_rows<A: Accessor>(
     alloc: Global,
     accessor: &A,
     rows: &[Row],
-) -> Result<KeyRows, OutOfMemory>
+) -> Result<Lists<Key>, OutOfMemory>
     ensures { IfOk result (λ keys. keys ≡ map (A.keys_of accessor.now) rows.now) }
 {
-    let mut keys = KeyRows::new(alloc);
+    let mut keys = Lists::new(alloc);
     push_keys(alloc, accessor, &mut keys, rows)?;
     Ok(keys)
 }
@@ -77,14 +77,15 @@ pub fn keys_of_rows<A: Accessor>(
 fn push_keys<A: Accessor>(
     alloc: Global,
     accessor: &A,
-    keys: &mut KeyRows,
+    keys: &mut Lists<Key>,
     rows: &[Row],
 ) -> Result<(), OutOfMemory>
     ensures ok { OnOk result (keys.new ≡ keys.old ++ map (A.keys_of accessor.now) rows.now) }
     ensures kept { take (length keys.old) keys.new ≡ keys.old }
 {
     for row in rows {
-        keys.push(accessor.keys(alloc, row)?)?;
+        let mut own = accessor.keys(alloc, row)?.into_vec();
+        keys.push(&mut own)?;
     }
     Ok(())
 }

@@ -121,7 +121,7 @@ fn collect_key_rows<A: Accessor, G: Rounding, P: Predicate>(
     let mut collected = Vec::with_capacity(alloc, rows.len())?;
     for place in 0..rows.len() {
         let passes = passes_others(dimensions, rows.len(), own, place);
-        let keys = dimensions[own].keys.row(place);
+        let keys = dimensions[own].keys.list(place);
         push_rounded(alloc, rounding, keys, passes, &mut collected)?;
     }
     Ok(collected)

@@ -31,7 +31,6 @@ mod group;
 mod group_refusal;
 mod ids;
 mod key_number;
-mod key_rows;
 mod list_refusal;
 mod listing;
 mod marks;

@@ -47,7 +47,7 @@ fn collect_pairs<'a, A, P: Predicate>(
     let mut pairs = Vec::new(alloc);
     for place in 0..count {
         if passes_each(dimensions, count, place) {
-            push_pairs(&mut pairs, &own.filter, own.keys.row(place), place)?;
+            push_pairs(&mut pairs, &own.filter, own.keys.list(place), place)?;
         }
     }
     Ok(pairs)

@@ -4,10 +4,10 @@ ghost use Rattle.std.specs.List.{range_with_len};
 ghost use Rattle.xf_engine.specs.Held.{HoldEach, keys_pass, passes_each_at};
 
 use crate::dimension::{Dimension, keys_pass, passes_each};
-use crate::key_rows::KeyRows;
 use std::alloc::Global;
 use xf_base::OutOfMemory;
 use xf_filter::{Filter, Predicate};
+use xf_lists::Lists;
 
 /// For each row, whether it passes each dimension.
 pub fn passing_marks<A, P: Predicate>(
@@ -28,14 +28,14 @@ pub fn passing_marks<A, P: Predicate>(
 /// For each row, whether its keys pass a filter.
 pub fn marks_under<P: Predicate>(
     alloc: Global,
-    keys: &KeyRows,
+    keys: &Lists<Key>,
     filter: &Filter<P>,
 ) -> Result<Vec<bool>, OutOfMemory>
     ensures { IfOk result (λ marks. marks.items ≡ map (keys_pass P.says_to filter.now) keys.now) }
 {
     let mut marks = Vec::with_capacity(alloc, keys.len())?;
     for place in 0..keys.len() {
-        marks.push(keys_pass(filter, keys.row(place)))?;
+        marks.push(keys_pass(filter, keys.list(place)))?;
     }
     Ok(marks)
 }

@@ -6,7 +6,7 @@ use Rattle.std.proofs.lemmas.List.Sums.{sum_by-cons}
 use Rattle.std.specs.List.{sum_by, swap}
 use Rattle.xf_base.proofs.KeptItems.{drop-swap, take-swap}
 use Rattle.xf_base.specs.Gone.{kept}
-use Rattle.xf_engine.specs.KeyRows.{AreEnds, cut_at, start_of}
+use Rattle.xf_lists.specs.Lists.{AreEnds, cut_at, start_of}
 
 -- where the list at a place begins, if the first begins at `start`
 pub start_from : ℕ → List ℕ → ℕ → ℕ

@@ -1,10 +1,10 @@
 use Rattle.std.proofs.Common.{◌≡◌, ◌+◌, ◌-◌, ◌++◌, take, drop}
-use Rattle.xf_engine.proofs.key_rows.move_down.Given as goal
+use Rattle.xf_lists.proofs.lists.move_down.Given as goal
 
 -- what has been moved, and after it what is still to be moved
 abbrev pub invariant-loop-place : goal.invariant-loop-place
 invariant-loop-place l = record {
   next : l.next + l.start ≡ l.to + l.place;
-  moved : take l.next l.keys ++ take (l.end - l.place) (drop l.place l.keys) ≡ take l.to l.initial.keys ++ take (l.end - l.start) (drop l.start l.initial.keys);
-  later : drop l.end l.keys ≡ drop l.end l.initial.keys;
+  moved : take l.next l.items ++ take (l.end - l.place) (drop l.place l.items) ≡ take l.to l.initial.items ++ take (l.end - l.start) (drop l.start l.initial.items);
+  later : drop l.end l.items ≡ drop l.end l.initial.items;
 }

@@ -1,7 +1,0 @@
-use Rattle.xf_base.specs.Gone.{kept}
-use Rattle.xf_engine.proofs.CutAt.{IsCompact}
-use Rattle.xf_engine.specs.KeyRows.{cut_at}
-use Rattle.xf_engine.proofs.key_rows.compact.Given as goal
-
-abbrev pub invariant-loop-place : goal.invariant-loop-place
-invariant-loop-place l = IsCompact l.gone l.ends l.keys l.count l.place l.start l.filled (kept l.gone (cut_at 0 l.initial.ends l.initial.keys))
