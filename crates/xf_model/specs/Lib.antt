@@ -6,3 +6,5 @@ pub mod Replay
 pub mod Laws
 pub mod Plain
 pub mod Undo
+pub mod Top
+pub mod Digits

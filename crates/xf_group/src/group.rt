@@ -1,0 +1,213 @@
+//! A group: what is kept, and its calls.
+ghost use Rattle.std.specs.Prelude.{◌≡◌, ◌+◌, ◌*◌, ◌<◌, ◌≤◌, Bool, [], ◌++◌, IfOk, OnErr, OnOk, Some, filter, flat_map, length, option_copied, slice_get, sum_by, take};
+ghost use Rattle.std.specs.List.{AllByRecursion};
+ghost use Rattle.std.specs.List.Sorted.{IsStrictlySortedBy};
+ghost use Rattle.xf_base.specs.Gone.{kept};
+ghost use Rattle.xf_base.specs.Key.{key_cmp};
+ghost use Rattle.xf_group.specs.Admitted.{AreReady, StayReady, SuitAll};
+ghost use Rattle.xf_group.specs.Changed.{AreChanged, MayChangeAll, changed_meaning};
+ghost use Rattle.xf_group.specs.Group.{keys_at, meanings, meanings_for, ranked_positions, value_at};
+ghost use Rattle.xf_model.specs.Digits.{digits};
+ghost use Rattle.xf_model.specs.Laws.{is_among};
+
+use crate::admit::enter;
+use crate::entry::{Entry, GroupEntry};
+use crate::search::find;
+use crate::unused::drop_unused;
+use std::alloc::Global;
+use std::cmp::Reverse;
+use std::marker::Model;
+use std::sync::ledger::Ledger;
+use xf_base::{Gone, Key, KeyList, OutOfMemory, Row, RowList, Steps};
+use xf_lists::Lists;
+use xf_reduce::Reducer;
+
+/// The keys of records in ascending order, each with the value of a reducer, and for each record's place its keys.
+#[derive(Drop)]
+pub struct Group<R: Reducer> {
+    alloc: Global,
+    reducer: R,
+    entries: Vec<Entry<R::Value>>,
+    /// For each place the positions of its keys among the entries.
+    places: Lists<usize>,
+    /// Room to count in, as long as the entries at least, so that `retire` takes no memory.
+    numbers: Vec<usize>,
+}
+
+impl<R: Reducer> Model for Group<R> {
+    ghost use Rattle.std.specs.Prelude.{length};
+    ghost use Rattle.xf_group.specs.Group.{Grouped};
+    ghost use Rattle.xf_group.specs.Held.{HoldsGroup, grouped};
+
+    ghost Value = { Grouped R R.Value };
+
+    ghost view = { λ group. grouped group.reducer group.entries.items group.places };
+
+    ghost invariant = { λ group. HoldsGroup group.reducer group.entries.items group.places (length group.numbers.items) };
+}
+
+impl<R: Reducer> Group<R> {
+    /// A group without places. It takes no memory yet.
+    pub fn new(alloc: Global, reducer: R) -> Group<R>
+        ensures reducer { result.reducer ≡ reducer }
+        ensures entries { result.entries ≡ [] }
+        ensures places { result.places ≡ [] }
+    {
+        Group {
+            alloc,
+            reducer,
+            entries: Vec::new(alloc),
+            places: Lists::new(alloc),
+            numbers: Vec::new(alloc),
+        }
+    }
+
+    /// The number of keys.
+    pub fn size(&self) -> usize
+        ensures { result ≡ length self.now.entries }
+    {
+        self.entries.len()
+    }
+
+    /// The reducer of the values.
+    pub fn reducer(&self) -> &R
+        ensures { result.now ≡ self.now.reducer }
+    {
+        &self.reducer
+    }
+
+    /// The key at a position from 0 on, in ascending order, with its value. It costs one step.
+    pub fn at<L: Ledger>(&self, i: usize, steps: &mut Steps<L>) -> GroupEntry<'_, R::Value>
+        requires { i < length self.now.entries }
+        ensures entry { slice_get self.now.entries i ≡ Some (record { key = result.key.now; value = result.value.now }) }
+        ensures cost { steps.new ≡ steps.old + 1 }
+    {
+        steps.tick();
+        let entries = self.entries.as_slice();
+        let entry = &entries[i];
+        GroupEntry {
+            key: &entry.key,
+            value: &entry.value,
+        }
+    }
+
+    /// The value of a key, or None where no place has the key. It costs a step for each comparison, at most as many as the
+    /// number of keys has binary digits.
+    pub fn value<L: Ledger>(&self, key: &Key, steps: &mut Steps<L>) -> Option<&R::Value>
+        ensures value { option_copied result ≡ value_at self.now.entries key.now }
+        ensures cost { steps.new ≤ steps.old + digits (length self.now.entries) }
+    {
+        let position = find(self.entries.as_slice(), key, steps)?;
+        let entries = self.entries.as_slice();
+        Some(&entries[position].value)
+    }
+
+    /// The positions of the first `k` keys by the rank of their values in a field, the greatest first, and where ranks are
+    /// equal by key. It costs a step for each key.
+    pub fn top<L: Ledger>(
+        &self,
+        k: usize,
+        field: u8,
+        steps: &mut Steps<L>,
+    ) -> Result<Vec<usize>, OutOfMemory>
+        requires { field < R.field_count self.now.reducer }
+        ensures positions { IfOk result (λ v. v.items ≡ take k (ranked_positions (λ value. R.rank_of self.now.reducer (R.meaning_of value) field) self.now.entries)) }
+        ensures cost { steps.new ≤ steps.old + length self.now.entries }
+    {
+        let mut ranks = Vec::with_capacity(self.alloc, self.entries.len())?;
+        for position in 0..self.entries.len() {
+            let entry = self.at(position, steps);
+            ranks.push((Reverse(self.reducer.rank(entry.value, field)), position))?;
+        }
+        ranks.sort_unstable();
+        ranks.truncate(k);
+        let mut positions = Vec::with_capacity(self.alloc, ranks.len())?;
+        for (_, position) in ranks.as_slice() {
+            positions.push(*position)?;
+        }
+        Ok(positions)
+    }
+
+    /// Enters new places after the old ones, with the keys of each. Keys that are new get the value of no rows, and the
+    /// value of each key of a new place is made ready for its row; no row is added. Each comparison of a key costs a step.
+    /// Without memory the keys and places are as before; no value means anything else or is ready for fewer rows.
+    pub fn admit<L: Ledger>(
+        &mut self,
+        rows: &RowList,
+        keys: &[KeyList],
+        steps: &mut Steps<L>,
+    ) -> Result<(), OutOfMemory>
+        requires rows { SuitAll (R.fits_to self.old.reducer) rows.now }
+        requires each { length keys.now ≡ length rows.now }
+        requires ascend { AllByRecursion (IsStrictlySortedBy key_cmp) keys.now }
+        ensures reducer { self.new.reducer ≡ self.old.reducer }
+        ensures places { OnOk result (self.new.places ≡ self.old.places ++ keys.now) }
+        ensures meanings { OnOk result (meanings R.meaning_of self.new.entries ≡ meanings_for R.meaning_of (R.folding self.old.reducer).initial self.old.entries self.new.places) }
+        ensures ready { OnOk result (AreReady (R.IsReady self.old.reducer) self.new.entries rows.now keys.now) }
+        ensures kept { StayReady (R.IsReady self.old.reducer) self.old.entries self.new.entries }
+        ensures same_places { OnErr result (self.new.places ≡ self.old.places) }
+        ensures same_meanings { OnErr result (meanings R.meaning_of self.new.entries ≡ meanings R.meaning_of self.old.entries) }
+        ensures cost { OnOk result (steps.new ≤ steps.old + (digits (length self.new.entries) + 1) * sum_by length keys.now) }
+    {
+        let count = self.places.len();
+        let entered = enter(
+            self.alloc,
+            &self.reducer,
+            &mut self.entries,
+            &mut self.numbers,
+            &mut self.places,
+            rows.as_slice(),
+            keys,
+            steps,
+        );
+        if entered.is_err() {
+            self.places.truncate(count);
+            drop_unused(&mut self.entries, &mut self.places, &mut self.numbers);
+            return Err(OutOfMemory);
+        }
+        Ok(())
+    }
+
+    /// Adds the row of a place to the value of each of its keys, or takes it back, at the cost of one step for each key.
+    pub fn change<L: Ledger>(&mut self, place: usize, row: &Row, on: bool, steps: &mut Steps<L>)
+        requires place { place < length self.old.places }
+        requires may { MayChangeAll R.meaning_of (R.fits_to self.old.reducer) (R.folding self.old.reducer) (R.IsReady self.old.reducer) (keys_at self.old place) on row.now self.old.entries }
+        ensures reducer { self.new.reducer ≡ self.old.reducer }
+        ensures places { self.new.places ≡ self.old.places }
+        ensures changed { AreChanged R.meaning_of (λ meaning. changed_meaning (R.folding self.old.reducer) (R.undo self.old.reducer) on meaning row.now) (R.IsReady self.old.reducer) R.calls (keys_at self.old place) self.old.entries self.new.entries }
+        ensures cost { steps.new ≡ steps.old + length (keys_at self.old place) }
+    {
+        change_each(&self.reducer, self.entries.as_mut_slice(), self.places.list(place), row, on, steps);
+    }
+
+    /// Takes the places away that are gone, and the keys that no place has any more. The values of the keys that stay do
+    /// not change. It takes no memory and no step.
+    pub fn retire(&mut self, gone: &Gone)
+        requires { length gone.now ≡ length self.old.places }
+        ensures reducer { self.new.reducer ≡ self.old.reducer }
+        ensures places { self.new.places ≡ kept gone.now self.old.places }
+        ensures entries { self.new.entries ≡ filter (λ entry. is_among key_cmp (flat_map (λ keys. keys) (kept gone.now self.old.places)) entry.key) self.old.entries }
+    {
+        self.places.retain(gone);
+        drop_unused(&mut self.entries, &mut self.places, &mut self.numbers);
+    }
+}
+
+/// Adds a row to the values at some positions, or takes it back.
+fn change_each<R: Reducer, L: Ledger>(
+    reducer: &R,
+    entries: &mut [Entry<R::Value>],
+    positions: &[usize],
+    row: &Row,
+    on: bool,
+    steps: &mut Steps<L>,
+) {
+    for position in positions {
+        let value = &mut entries[*position].value;
+        if on {
+            reducer.add(value, row, steps);
+        } else {
+            reducer.remove(value, row, steps);
+        }
+    }
+}
