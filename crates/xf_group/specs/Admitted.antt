@@ -5,7 +5,7 @@ use Rattle.xf_base.specs.Schema.{IsRowOf}
 use Rattle.xf_base.specs.declared.cell.Cell.{Cell}
 use Rattle.xf_base.specs.declared.column.Column.{Column}
 use Rattle.xf_base.specs.declared.key.Key.{Key}
-use Rattle.xf_group.specs.Group.{value_at}
+use Rattle.xf_group.specs.Group.{meaning_at, value_at}
 use Rattle.xf_group.specs.declared.entry.Entry.{Entry}
 
 -- rows of a schema that fits
@@ -13,6 +13,10 @@ pub record SuitAll (fits : List Column → Bool) (rows : List (List Cell)) : Typ
   pub columns : List Column
   pub fit : fits columns ≡ true
   pub of_schema : AllByRecursion (IsRowOf columns) rows
+
+-- each key's value means what it did; that of a key that is new means nothing yet
+abbrev pub SameMeanings : {Value Meaning : Type 0} → (Value → Meaning) → Meaning → List (Entry Value) → List (Entry Value) → Type 0
+SameMeanings meaning_of nothing old new = (key : Key) → meaning_at meaning_of nothing new key ≡ meaning_at meaning_of nothing old key
 
 -- the value of a key is ready for a row
 abbrev pub IsReadyAt : {Value : Type 0} → (Value → List Cell → Type 0) → List (Entry Value) → Key → List Cell → Type 0

@@ -1,4 +1,15 @@
 //! New places: their keys among the group's own, and values that are ready for their rows.
+ghost use Rattle.std.specs.Prelude.{◌≡◌, ◌+◌, ◌*◌, ◌≤◌, ◌++◌, OnOk, true, flat_map, length, sum_by, take};
+ghost use Rattle.std.specs.List.{AllByRecursion};
+ghost use Rattle.std.specs.List.Sorted.{IsStrictlySortedBy};
+ghost use Rattle.xf_base.specs.Key.{key_cmp};
+ghost use Rattle.xf_group.specs.Admitted.{AreReady, SameMeanings, StayReady, SuitAll};
+ghost use Rattle.xf_group.specs.Group.{meanings};
+ghost use Rattle.xf_group.specs.Held.{AreWithin, key_lists, keys_of};
+ghost use Rattle.xf_model.specs.Digits.{digits};
+ghost use Rattle.xf_model.specs.Group.{distinct_keys};
+ghost use Rattle.xf_model.specs.Laws.{is_among};
+
 use crate::entry::Entry;
 use crate::search::find;
 use std::alloc::Global;
@@ -17,7 +28,24 @@ pub fn enter<R: Reducer, L: Ledger>(
     rows: &[Row],
     keys: &[KeyList],
     steps: &mut Steps<L>,
-) -> Result<(), OutOfMemory> {
+) -> Result<(), OutOfMemory>
+    requires sorted { IsStrictlySortedBy key_cmp (keys_of entries.old.items) }
+    requires within { AreWithin (length entries.old.items) places.old }
+    requires room { length entries.old.items ≤ length numbers.old.items }
+    requires rows { SuitAll (R.fits_to reducer.now) rows.now }
+    requires each { length keys.now ≡ length rows.now }
+    requires ascend { AllByRecursion (IsStrictlySortedBy key_cmp) keys.now }
+    ensures places { OnOk result (key_lists (keys_of entries.new.items) places.new ≡ key_lists (keys_of entries.old.items) places.old ++ keys.now) }
+    ensures keys { OnOk result (keys_of entries.new.items ≡ distinct_keys key_cmp (keys_of entries.old.items ++ flat_map (λ own. own) keys.now)) }
+    ensures ready { OnOk result (AreReady (R.IsReady reducer.now) entries.new.items rows.now keys.now) }
+    ensures cost { OnOk result (steps.new ≤ steps.old + (digits (length entries.new.items) + 1) * sum_by length keys.now) }
+    ensures begun { key_lists (keys_of entries.new.items) (take (length places.old) places.new) ≡ key_lists (keys_of entries.old.items) places.old }
+    ensures meanings { SameMeanings R.meaning_of (R.folding reducer.now).initial entries.old.items entries.new.items }
+    ensures kept { StayReady (R.IsReady reducer.now) entries.old.items entries.new.items }
+    ensures sorted { IsStrictlySortedBy key_cmp (keys_of entries.new.items) }
+    ensures within { AreWithin (length entries.new.items) places.new }
+    ensures room { length entries.new.items ≤ length numbers.new.items }
+{
     enter_keys(alloc, reducer, entries, numbers, places, keys)?;
     enter_places(alloc, reducer, entries, places, rows, keys, steps)
 }
@@ -31,7 +59,19 @@ fn enter_keys<R: Reducer>(
     numbers: &mut Vec<usize>,
     places: &mut Lists<usize>,
     keys: &[KeyList],
-) -> Result<(), OutOfMemory> {
+) -> Result<(), OutOfMemory>
+    requires sorted { IsStrictlySortedBy key_cmp (keys_of entries.old.items) }
+    requires within { AreWithin (length entries.old.items) places.old }
+    requires room { length entries.old.items ≤ length numbers.old.items }
+    ensures keys { OnOk result (keys_of entries.new.items ≡ distinct_keys key_cmp (keys_of entries.old.items ++ flat_map (λ own. own) keys.now)) }
+    ensures places { key_lists (keys_of entries.new.items) places.new ≡ key_lists (keys_of entries.old.items) places.old }
+    ensures each { length places.new ≡ length places.old }
+    ensures meanings { SameMeanings R.meaning_of (R.folding reducer.now).initial entries.old.items entries.new.items }
+    ensures kept { StayReady (R.IsReady reducer.now) entries.old.items entries.new.items }
+    ensures sorted { IsStrictlySortedBy key_cmp (keys_of entries.new.items) }
+    ensures within { AreWithin (length entries.new.items) places.new }
+    ensures room { length entries.new.items ≤ length numbers.new.items }
+{
     let fresh = fresh_keys(alloc, entries.as_slice(), keys)?;
     let mut added = new_entries(alloc, reducer, fresh.as_slice())?;
     let order = new_positions(alloc, entries.as_slice(), fresh.as_slice())?;
@@ -113,7 +153,21 @@ fn enter_places<R: Reducer, L: Ledger>(
     rows: &[Row],
     keys: &[KeyList],
     steps: &mut Steps<L>,
-) -> Result<(), OutOfMemory> {
+) -> Result<(), OutOfMemory>
+    requires sorted { IsStrictlySortedBy key_cmp (keys_of entries.old.items) }
+    requires within { AreWithin (length entries.old.items) places.old }
+    requires rows { SuitAll (R.fits_to reducer.now) rows.now }
+    requires each { length keys.now ≡ length rows.now }
+    requires there { AllByRecursion (AllByRecursion (λ key. is_among key_cmp (keys_of entries.old.items) key ≡ true)) keys.now }
+    ensures places { OnOk result (key_lists (keys_of entries.new.items) places.new ≡ key_lists (keys_of entries.old.items) places.old ++ keys.now) }
+    ensures ready { OnOk result (AreReady (R.IsReady reducer.now) entries.new.items rows.now keys.now) }
+    ensures cost { OnOk result (steps.new ≤ steps.old + digits (length entries.new.items) * sum_by length keys.now) }
+    ensures begun { take (length places.old) places.new ≡ places.old }
+    ensures keys { keys_of entries.new.items ≡ keys_of entries.old.items }
+    ensures meanings { meanings R.meaning_of entries.new.items ≡ meanings R.meaning_of entries.old.items }
+    ensures kept { StayReady (R.IsReady reducer.now) entries.old.items entries.new.items }
+    ensures within { AreWithin (length entries.new.items) places.new }
+{
     let mut own = Vec::new(alloc);
     for place in 0..rows.len() {
         for key in keys[place].as_slice() {
