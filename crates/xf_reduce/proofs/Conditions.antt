@@ -8,14 +8,14 @@ use Rattle.xf_reduce.specs.Laws.{IsFoldBefore, IsFoldWith, Suits}
 
 -- a row that suits a narrower test suits a wider one
 pub suits_wider : (fits wider : List Column → Bool) → ((columns : List Column) → fits columns ≡ true → wider columns ≡ true) → (row : List Cell) → Suits fits row → Suits wider row
-suits_wider fits wider widens row is = record { columns = is.columns; fit = widens is.columns is.fit; row = is.row }
+suits_wider fits wider widens row is = record { columns = is.columns; fit = widens is.columns is.fit; of_columns = is.of_columns }
 
 module _ {X Y : Type 0} (part : X → Y) (fits wider : List Column → Bool) (reducer : Reducer (List Cell) X) (own : Reducer (List Cell) Y) (widens : (columns : List Column) → fits columns ≡ true → wider columns ≡ true) (is : IsPart part reducer own) where
   pub before_part : (value : X) (row : List Cell) → IsFoldBefore fits reducer value row → IsFoldBefore wider own (part value) row
   before_part value row before = record {
     columns = before.columns;
     fit = widens before.columns before.fit;
-    row = before.row;
+    of_columns = before.of_columns;
     rows = before.rows;
     of_schema = before.of_schema;
     few = before.few;
@@ -26,7 +26,7 @@ module _ {X Y : Type 0} (part : X → Y) (fits wider : List Column → Bool) (re
   with_part value row among = record {
     columns = among.columns;
     fit = widens among.columns among.fit;
-    row = among.row;
+    of_columns = among.of_columns;
     rows = among.rows;
     of_schema = among.of_schema;
     few = among.few;

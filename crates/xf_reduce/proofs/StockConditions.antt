@@ -31,7 +31,7 @@ few-rows number rows bound within few = le_trans within (mul-le-mul_right bound 
 pub sum-before : (place : ℕ) (value : ℤ) (row : List Cell) → IsFoldBefore (fits_at place) (sum_of place) value row → (nat_abs value ≤ ROWS * GREATEST_NUMBER) × (nat_abs (number_at place row) ≤ GREATEST_NUMBER)
 sum-before place value row before = (
   few-rows (nat_abs value) (length before.rows) GREATEST_NUMBER (rw before.folded (abs-sum_of place before.columns before.rows before.fit before.of_schema)) before.few,
-  abs-number_at place before.columns row before.fit before.row,
+  abs-number_at place before.columns row before.fit before.of_columns,
 )
 
 -- a sum from which a number goes
@@ -39,7 +39,7 @@ pub sum-with : (place : ℕ) (value : ℤ) (row : List Cell) → IsFoldWith (fit
 sum-with place value row among =
     let rest : value -ℤ number_at place row ≡ fold_of (sum_of place) among.rows = ap (λ sum. sum -ℤ number_at place row) among.folded ∙ back_sum (fold_of (sum_of place) among.rows) (number_at place row) in (
       few-rows (nat_abs (value -ℤ number_at place row)) (length among.rows) GREATEST_NUMBER (rw rest (abs-sum_of place among.columns among.rows among.fit among.of_schema)) among.few,
-      abs-number_at place among.columns row among.fit among.row,
+      abs-number_at place among.columns row among.fit among.of_columns,
     )
 
 -- totals to which a number comes
@@ -70,7 +70,7 @@ pub squares-before : (place : ℕ) (value : SquareTotals) (row : List Cell) → 
 squares-before place value row before =
     let within = squares_of-within place before.columns before.rows before.fit before.of_schema in (
       few-rows (nat_abs value.squares) (length before.rows) (GREATEST_NUMBER * GREATEST_NUMBER) (rw before.folded within.squares) before.few,
-      abs-square_at place before.columns row before.fit before.row,
+      abs-square_at place before.columns row before.fit before.of_columns,
     )
 
 -- squares from which one goes
@@ -80,5 +80,5 @@ squares-with place value row among =
     let within = squares_of-within place among.columns among.rows among.fit among.of_schema in
     let rest : value.squares -ℤ square ≡ (fold_of (squares_of place) among.rows).squares = ap (λ (kept : SquareTotals). kept.squares -ℤ square) among.folded ∙ back_sum (fold_of (squares_of place) among.rows).squares square in (
       few-rows (nat_abs (value.squares -ℤ square)) (length among.rows) (GREATEST_NUMBER * GREATEST_NUMBER) (rw rest within.squares) among.few,
-      abs-square_at place among.columns row among.fit among.row,
+      abs-square_at place among.columns row among.fit among.of_columns,
     )

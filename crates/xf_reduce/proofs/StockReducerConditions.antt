@@ -21,12 +21,12 @@ use Rattle.xf_reduce.proofs.Conditions.{suits_wider}
 pub before-one : (part : Simple) (kept : SimpleMeaning) (row : List Cell) → IsFoldBefore (stock_fits (stock.One part)) (stock_of (stock.One part)) (meaning.One kept) row → IsFoldBefore (simple_fits part) (simple_of part) kept row
 before-one part kept row before =
     let same : meaning.One kept ≡ meaning.One (fold_of (simple_of part) before.rows) = before.folded ∙ fold_of-one part before.rows in
-    record { columns = before.columns; fit = before.fit; row = before.row; rows = before.rows; of_schema = before.of_schema; few = before.few; folded = cc }
+    record { columns = before.columns; fit = before.fit; of_columns = before.of_columns; rows = before.rows; of_schema = before.of_schema; few = before.few; folded = cc }
 
 pub with-one : (part : Simple) (kept : SimpleMeaning) (row : List Cell) → IsFoldWith (stock_fits (stock.One part)) (stock_of (stock.One part)) (meaning.One kept) row → IsFoldWith (simple_fits part) (simple_of part) kept row
 with-one part kept row among =
     let same : meaning.One kept ≡ meaning.One ((simple_of part).step (fold_of (simple_of part) among.rows) row) = among.folded ∙ ap (λ value. stock_step (stock.One part) value row) (fold_of-one part among.rows) in
-    record { columns = among.columns; fit = among.fit; row = among.row; rows = among.rows; of_schema = among.of_schema; few = among.few; folded = cc }
+    record { columns = among.columns; fit = among.fit; of_columns = among.of_columns; rows = among.rows; of_schema = among.of_schema; few = among.few; folded = cc }
 
 pub before_one-not_two : (part : Simple) (one other : SimpleMeaning) (row : List Cell) → IsFoldBefore (stock_fits (stock.One part)) (stock_of (stock.One part)) (meaning.Two one other) row → ⊥
 before_one-not_two part one other row before = cc (before.folded, fold_of-one part before.rows)
@@ -55,22 +55,22 @@ module _ (first second : Simple) where
     pub before-first : IsFoldBefore (stock_fits (stock.Two first second)) (stock_of (stock.Two first second)) (meaning.Two one other) row → IsFoldBefore (simple_fits first) (simple_of first) one row
     before-first before =
         let same : meaning.Two one other ≡ meaning.Two (fold_of (simple_of first) before.rows) (fold_of (simple_of second) before.rows) = before.folded ∙ fold_of-two first second before.rows in
-        record { columns = before.columns; fit = fits_first before.columns before.fit; row = before.row; rows = before.rows; of_schema = before.of_schema; few = before.few; folded = cc }
+        record { columns = before.columns; fit = fits_first before.columns before.fit; of_columns = before.of_columns; rows = before.rows; of_schema = before.of_schema; few = before.few; folded = cc }
 
     pub before-second : IsFoldBefore (stock_fits (stock.Two first second)) (stock_of (stock.Two first second)) (meaning.Two one other) row → IsFoldBefore (simple_fits second) (simple_of second) other row
     before-second before =
         let same : meaning.Two one other ≡ meaning.Two (fold_of (simple_of first) before.rows) (fold_of (simple_of second) before.rows) = before.folded ∙ fold_of-two first second before.rows in
-        record { columns = before.columns; fit = fits_second before.columns before.fit; row = before.row; rows = before.rows; of_schema = before.of_schema; few = before.few; folded = cc }
+        record { columns = before.columns; fit = fits_second before.columns before.fit; of_columns = before.of_columns; rows = before.rows; of_schema = before.of_schema; few = before.few; folded = cc }
 
     pub with-first : IsFoldWith (stock_fits (stock.Two first second)) (stock_of (stock.Two first second)) (meaning.Two one other) row → IsFoldWith (simple_fits first) (simple_of first) one row
     with-first among =
         let same : meaning.Two one other ≡ meaning.Two ((simple_of first).step (fold_of (simple_of first) among.rows) row) ((simple_of second).step (fold_of (simple_of second) among.rows) row) = among.folded ∙ ap (λ value. stock_step (stock.Two first second) value row) (fold_of-two first second among.rows) in
-        record { columns = among.columns; fit = fits_first among.columns among.fit; row = among.row; rows = among.rows; of_schema = among.of_schema; few = among.few; folded = cc }
+        record { columns = among.columns; fit = fits_first among.columns among.fit; of_columns = among.of_columns; rows = among.rows; of_schema = among.of_schema; few = among.few; folded = cc }
 
     pub with-second : IsFoldWith (stock_fits (stock.Two first second)) (stock_of (stock.Two first second)) (meaning.Two one other) row → IsFoldWith (simple_fits second) (simple_of second) other row
     with-second among =
         let same : meaning.Two one other ≡ meaning.Two ((simple_of first).step (fold_of (simple_of first) among.rows) row) ((simple_of second).step (fold_of (simple_of second) among.rows) row) = among.folded ∙ ap (λ value. stock_step (stock.Two first second) value row) (fold_of-two first second among.rows) in
-        record { columns = among.columns; fit = fits_second among.columns among.fit; row = among.row; rows = among.rows; of_schema = among.of_schema; few = among.few; folded = cc }
+        record { columns = among.columns; fit = fits_second among.columns among.fit; of_columns = among.of_columns; rows = among.rows; of_schema = among.of_schema; few = among.few; folded = cc }
 
   pub before_two-not_one : (kept : SimpleMeaning) (row : List Cell) → IsFoldBefore (stock_fits (stock.Two first second)) (stock_of (stock.Two first second)) (meaning.One kept) row → ⊥
   before_two-not_one kept row before = cc (before.folded, fold_of-two first second before.rows)

@@ -27,7 +27,7 @@ pub both_is_rank : (fields others field : ℕ) (one other : ℤ) → field < fie
 both_is_rank fields others field one other within is_one is_other =
     cond_both (nat_lt field fields) one other IsRank (λ test. is_one (grind (arith, nat_tests))) (λ test. is_other (grind (arith, nat_tests)))
 
-module _ {X Y : Type 0} {fits other_fits : List Column → Bool} {first : Reducer (List Cell) X} {second : Reducer (List Cell) Y} where
+module _ {X Y : Type 0} {fits other_fits : List Column → Bool} (first : Reducer (List Cell) X) (second : Reducer (List Cell) Y) where
   pub both_swap : Swaps fits first → Swaps other_fits second → Swaps (λ columns. fits columns && other_fits columns) (both_of first second)
   both_swap one other columns fit rows a b few all is_a is_b =
       let fits_both = and_parts (fits columns) (other_fits columns) fit in
@@ -37,10 +37,10 @@ module _ {X Y : Type 0} {fits other_fits : List Column → Bool} {first : Reduce
       let right = subst (λ (value : Y). second.step (second.step value a) b ≡ second.step (second.step value b) a) back (other columns fits_both.1 rows a b few all is_a is_b) in
       λ i. (left i, right i)
 
-  pub both_take_back : {undo : X → List Cell → X} {other_undo : Y → List Cell → Y}
+  pub both_take_back : (undo : X → List Cell → X) (other_undo : Y → List Cell → Y)
     → TakesBack fits first undo → TakesBack other_fits second other_undo
     → TakesBack (λ columns. fits columns && other_fits columns) (both_of first second) (both_less undo other_undo)
-  both_take_back {undo = undo} {other_undo = other_undo} one other columns fit rows row few all is =
+  both_take_back undo other_undo one other columns fit rows row few all is =
       let fits_both = and_parts (fits columns) (other_fits columns) fit in
       let front = sym (part-fold_of (λ (pair : X × Y). pair.0) (both_of first second) first (first_of_both first second) rows) in
       let back = sym (part-fold_of (λ (pair : X × Y). pair.1) (both_of first second) second (second_of_both first second) rows) in
@@ -48,10 +48,10 @@ module _ {X Y : Type 0} {fits other_fits : List Column → Bool} {first : Reduce
       let right = subst (λ (value : Y). other_undo (second.step value row) row ≡ value) back (other columns fits_both.1 rows row few all is) in
       λ i. (left i, right i)
 
-  pub both_within : {rank : X → ℕ → ℤ} {other_rank : Y → ℕ → ℤ} {fields other_fields : ℕ}
+  pub both_within : (rank : X → ℕ → ℤ) (other_rank : Y → ℕ → ℤ) {fields other_fields : ℕ}
     → RanksWithin fits first rank fields → RanksWithin other_fits second other_rank other_fields
     → RanksWithin (λ columns. fits columns && other_fits columns) (both_of first second) (both_field fields rank other_rank) (fields + other_fields)
-  both_within {rank = rank} {other_rank = other_rank} {fields = fields} {other_fields = other_fields} one other columns rows field fit all few within =
+  both_within rank other_rank {fields = fields} {other_fields = other_fields} one other columns rows field fit all few within =
       let fits_both = and_parts (fits columns) (other_fits columns) fit in
       let pair = fold_of (both_of first second) rows in
       let front = sym (part-fold_of (λ (pair : X × Y). pair.0) (both_of first second) first (first_of_both first second) rows) in

@@ -1,7 +1,8 @@
 -- The laws of the parts of the stock that keep sums and counts.
 use Rattle.std.proofs.Common.{◌≡◌, ℕ, zero, suc, ◌+◌, ◌-◌, ◌*◌, ◌/◌, ◌^◌, ◌==◌, ◌<◌, ◌≤◌, ℤ, pos, negsuc, neg_ℤ, nat_abs, ◌+ℤ◌, ◌-ℤ◌, ◌*ℤ◌, ◌≤ℤ◌, Bool, true, false, if◌then◌else◌, List, length, refl, ap, ◌∙◌, arith, lit≤}
-use Rattle.core.specs.Int.{int_div_euclid}
+use Rattle.std.specs.Int.{int_div_euclid}
 use Rattle.std.proofs.lemmas.Bool.{cond_both}
+use Rattle.std.proofs.lemmas.Bool.Decides.{nat_tests}
 use Rattle.std.proofs.lemmas.Int.{ints}
 use Rattle.std.specs.List.{AllByRecursion}
 use Rattle.xf_base.specs.Schema.{IsRowOf}
@@ -92,8 +93,8 @@ totals_take_back place columns fit rows row few all is = back_totals place (fold
 -- a mean is not beyond the sum
 abs-mean : (sum : ℤ) (number : ℕ) → nat_abs (if number == 0 then pos 0 else int_div_euclid sum (pos number)) ≤ nat_abs sum
 abs-mean sum zero = omega arith
-abs-mean (pos sum) (suc number) = omega arith
-abs-mean (negsuc sum) (suc number) = omega arith
+abs-mean (pos sum) (suc number) = let some : (suc number == 0) ≡ false = grind (arith, nat_tests) in rw some (omega arith)
+abs-mean (negsuc sum) (suc number) = let some : (suc number == 0) ≡ false = grind (arith, nat_tests) in rw some (omega arith)
 
 -- how large the totals of rows of a schema may be
 pub record AreTotalsWithin (totals : Totals) (rows : ℕ) : Type 0 where
