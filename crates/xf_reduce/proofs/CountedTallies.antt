@@ -1,5 +1,5 @@
 -- Tallies around that of one number: what they tell of all numbers, and what they become where its count changes.
-use Rattle.std.proofs.Common.{◌≡◌, ℕ, zero, suc, ◌+◌, ◌-◌, ◌<◌, ◌≤◌, Bool, true, false, not, cond, ◌==◌, if◌then◌else◌, Ordering, ℤ, pos, List, [], ◌∷◌, ◌++◌, map, flat_map, length, replicate, get_or, sum_by, count_by, Option, Some, None, is_some, unwrap_or, Result, Ok, Err, OnOk, OnErr, Less, Equal, Greater, refl, sym, ap, ap₂, subst, ◌∙◌, true≢false, add-one, length-append, arith}
+use Rattle.std.proofs.Common.{◌≡◌, ℕ, zero, suc, ◌+◌, ◌-◌, ◌<◌, ◌≤◌, Bool, true, false, not, cond, ◌==◌, if◌then◌else◌, Ordering, ℤ, pos, List, [], ◌∷◌, ◌++◌, map, flat_map, length, replicate, get_or, sum_by, count_by, Option, Some, None, is_some, unwrap_or, Result, Ok, Err, OnOk, OnErr, Less, Equal, Greater, refl, sym, ap, ap₂, subst, ◌∙◌, true≢false, add-one, ne_eqb, length-append, arith}
 use Rattle.std.specs.BTreeMap.{insert_entry, is_at}
 use Rattle.std.specs.FinMap.{int_cmp-IsAntisymmetric}
 use Rattle.std.specs.List.{AllByRecursion}
@@ -223,8 +223,8 @@ module _ {tallies : List (ℤ × ℕ)} {number : ℤ} {count : ℕ} (placed : Co
       → AreTallies (insert_entry int_cmp tallies number other) distinct total
   AreTallies-changed other distinct total sorted differ many = record {
     ascend = subst (IsStrictlySortedBy int_cmp) (sym (keys_then other)) sorted;
-    distinct = let now = distinct_now in let then = distinct_then other in omega arith;
-    total = let now = length_now in let then = length_then other in omega arith;
+    distinct = let before = distinct_now in let after = distinct_then other in omega arith;
+    total = let before = length_now in let after = length_then other in omega arith;
   }
 
 -- a number that comes in 0 times changes no number
@@ -254,9 +254,8 @@ AreTallies-entered placed sorted told = record {
 }
 
 -- a count that is not 0 is of one number that is there
-pub one_where_some : (count : ℕ) → 0 < count → cond (not (count == 0)) 1 0 ≡ 1
-one_where_some zero some = absurd (omega arith)
-one_where_some (suc count) some = refl
+pub one_where_some : (count : ℕ) → 0 < count → cond {A = ℕ} (not (count == 0)) 1 0 ≡ 1
+one_where_some count some = let test : (count == 0) ≡ false = ne_eqb count 0 (omega arith) in ap (λ test. cond {A = ℕ} (not test) 1 0) test
 
 -- no more numbers differ than there are
 pub distinct_in-le : (tallies : List (ℤ × ℕ)) → distinct_in tallies ≤ length (numbers_in tallies)
@@ -267,12 +266,12 @@ distinct_in-le (tally ∷ tallies) =
     let joined : length (replicate tally.1 tally.0 ++ numbers_in tallies) ≡ length (replicate tally.1 tally.0) + length (numbers_in tallies) = length-append (replicate tally.1 tally.0) (numbers_in tallies) in
     let own : length (replicate tally.1 tally.0) ≡ tally.1 = length-replicate tally.1 tally.0 in
     let rest : distinct_in tallies ≤ length (numbers_in tallies) = distinct_in-le tallies in
-    let light : cond (not (tally.1 == 0)) 1 0 ≤ tally.1 = some_or_none tally.1 in
+    let light : cond (not (tally.1 == 0)) 1 0 ≤ tally.1 = one_or_none tally.1 in
     omega arith
   where
-    some_or_none : (count : ℕ) → cond (not (count == 0)) 1 0 ≤ count
-    some_or_none zero = omega arith
-    some_or_none (suc count) = omega arith
+    one_or_none : (count : ℕ) → cond (not (count == 0)) 1 0 ≤ count
+    one_or_none zero = omega arith
+    one_or_none (suc count) = let one : cond (not (suc count == 0)) 1 0 ≡ 1 = one_where_some (suc count) (omega arith) in omega arith
 
 -- ---- how many differ
 
@@ -296,7 +295,9 @@ length-distinct_keys-numbers_in (tally ∷ tallies) sorted =
   where
     choose : (count : ℕ) → AllByRecursion (λ x. int_cmp tally.0 x ≡ Less) (numbers_in tallies) → length (distinct_keys int_cmp (replicate count tally.0 ++ numbers_in tallies)) ≡ cond (not (count == 0)) 1 0 + length (distinct_keys int_cmp (numbers_in tallies))
     choose zero above = omega arith
-    choose (suc count) above = ap length (distinct_keys-replicate tally.0 count (numbers_in tallies) above) ∙ omega arith
+    choose (suc count) above =
+        let one : cond (not (suc count == 0)) 1 0 ≡ 1 = one_where_some (suc count) (omega arith) in
+        ap length (distinct_keys-replicate tally.0 count (numbers_in tallies) above) ∙ omega arith
 
 -- ---- the number at a place
 

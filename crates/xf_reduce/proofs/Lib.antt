@@ -1,1 +1,6 @@
 pub mod CountedTallies
+pub mod Conditions
+pub mod PairConditions
+pub mod StockConditions
+pub mod SimpleConditions
+pub mod StockReducerConditions

@@ -1,21 +1,20 @@
 -- The laws of the part of the stock that keeps numbers.
-use Rattle.std.proofs.Common.{◌≡◌, ℕ, zero, suc, ◌+◌, ◌-◌, ◌/◌, ◌<◌, ◌≤◌, Bool, true, false, ◌==◌, if◌then◌else◌, Some, ℤ, pos, ◌≤ℤ◌, List, [], ◌∷◌, length, fold, get_or, Less, Equal, Greater, refl, sym, ap, ◌∙◌, true≢false, lit≤, arith}
+use Rattle.std.proofs.Common.{◌≡◌, ℕ, zero, suc, ◌+◌, ◌-◌, ◌/◌, ◌<◌, ◌≤◌, Bool, true, false, ◌==◌, if◌then◌else◌, Some, ℤ, pos, nat_abs, List, [], ◌∷◌, length, fold, get_or, Less, Equal, Greater, refl, sym, ap, ◌∙◌, true≢false, lit≤, arith}
 use Rattle.std.specs.FinMap.{int_cmp-IsAntisymmetric}
 use Rattle.std.specs.List.{AllByRecursion}
 use Rattle.std.specs.Ordering.{int_cmp, is_eq, is_lt, ordering_reverse}
 use Rattle.std.specs.declared.cmp.Ordering.{Ordering}
 use Rattle.std.proofs.lemmas.Cmp.{int_cmp_total, tied_itself}
 use Rattle.std.proofs.lemmas.Int.{ints}
-use Rattle.xf_base.specs.Schema.{IsCellNumber, IsCellOf, IsRowOf}
+use Rattle.xf_base.specs.Schema.{IsRowOf}
 use Rattle.xf_base.specs.declared.cell.Cell.{Cell}
-use Rattle.xf_base.specs.declared.cell.Cell.TheVariants as cell
 use Rattle.xf_base.specs.declared.column.Column.{Column}
-use Rattle.xf_base.specs.declared.column.ColumnKind.{ColumnKind}
-use Rattle.xf_base.specs.declared.column.ColumnKind.TheVariants as kind
+use Rattle.xf_base.specs.declared.fixed.TheConstants.{GREATEST_NUMBER}
 use Rattle.xf_base.specs.declared.limits.TheConstants.Limits.{ROWS}
 use Rattle.xf_model.specs.Group.{distinct_keys, fold_of, with_key}
 use Rattle.xf_reduce.specs.Laws.{IsRank, RanksWithin, Swaps, TakesBack}
-use Rattle.xf_reduce.specs.Number.{fits_at, is_number_kind, number_at, number_in}
+use Rattle.xf_reduce.specs.CellNumbers.{abs-number_at}
+use Rattle.xf_reduce.specs.Number.{fits_at, number_at}
 use Rattle.xf_reduce.specs.Stock.{number_in_place, numbers_field, numbers_less, numbers_of, with_number, without_number}
 
 -- the three answers of a comparison, each with its equation
@@ -109,11 +108,12 @@ without_number-with_number number (first ∷ later) =
 -- one number more is one more
 pub length-with_number : (number : ℤ) (numbers : List ℤ) → length (with_number number numbers) ≡ length numbers + 1
 length-with_number number [] = omega arith
-length-with_number number (first ∷ later) = choose (is_lt (int_cmp first number))
-  where
-    choose : (test : Bool) → length (if test then first ∷ with_number number later else number ∷ first ∷ later) ≡ length (first ∷ later) + 1
-    choose true = let rest : length (with_number number later) ≡ length later + 1 = length-with_number number later in omega arith
-    choose false = omega arith
+length-with_number number (first ∷ later) =
+    let rest : length (with_number number later) ≡ length later + 1 = length-with_number number later in
+    elim (is_lt (int_cmp first number)) as (λ test. length (if test then first ∷ with_number number later else number ∷ first ∷ later) ≡ length (first ∷ later) + 1) [
+      | true ↦ omega arith
+      | false ↦ omega arith
+    ]
 
 length-fold : (place : ℕ) (numbers : List ℤ) (rows : List (List Cell)) → length (fold (λ numbers row. with_number (number_at place row) numbers) numbers rows) ≡ length numbers + length rows
 length-fold place numbers [] = omega arith
@@ -128,52 +128,40 @@ length-numbers_of place rows = length-fold place [] rows ∙ omega arith
 -- what holds of a number and of each of others holds of each once it has come
 all-with_number : (P : ℤ → Type 0) (number : ℤ) (numbers : List ℤ) → P number → AllByRecursion P numbers → AllByRecursion P (with_number number numbers)
 all-with_number P number [] own all = (own, tt)
-all-with_number P number (first ∷ later) own all = choose (is_lt (int_cmp first number))
-  where
-    choose : (test : Bool) → AllByRecursion P (if test then first ∷ with_number number later else number ∷ first ∷ later)
-    choose true = (all.0, all-with_number P number later own all.1)
-    choose false = (own, all)
+all-with_number P number (first ∷ later) own all =
+    elim (is_lt (int_cmp first number)) as (λ test. AllByRecursion P (if test then first ∷ with_number number later else number ∷ first ∷ later)) [
+      | true ↦ (all.0, all-with_number P number later own all.1)
+      | false ↦ (own, all)
+    ]
 
--- a cell of a column of numbers has a number within bounds
-cell_number : (sort : ColumnKind) (value : Cell) → is_number_kind sort ≡ true → IsCellOf sort value → IsCellNumber (number_in (Some value))
-cell_number kind.Int (cell.Num number) fit own = own
-cell_number kind.Int (cell.Text text) fit own = absurd own
-cell_number kind.Int (cell.Tags tags) fit own = absurd own
-cell_number (kind.Fixed decimals) (cell.Num number) fit own = own
-cell_number (kind.Fixed decimals) (cell.Text text) fit own = absurd own
-cell_number (kind.Fixed decimals) (cell.Tags tags) fit own = absurd own
-cell_number kind.Date value fit own = absurd (true≢false (sym fit))
-cell_number kind.Text value fit own = absurd (true≢false (sym fit))
-cell_number (kind.Tags separator) value fit own = absurd (true≢false (sym fit))
-
--- so has a row of such a column
-row_number : (place : ℕ) (columns : List Column) (row : List Cell) → fits_at place columns ≡ true → IsRowOf columns row → IsCellNumber (number_at place row)
-row_number place [] row fit own = absurd (true≢false (sym fit))
-row_number place (column ∷ columns) [] fit own = absurd own
-row_number zero (column ∷ columns) (value ∷ row) fit own = cell_number column.kind value fit own.0
-row_number (suc place) (column ∷ columns) (value ∷ row) fit own = row_number place columns row fit own.1
+-- a number that a cell may hold
+abbrev IsSmall : ℤ → Type 0
+IsSmall number = nat_abs number ≤ GREATEST_NUMBER
 
 all-fold : (place : ℕ) (columns : List Column) (numbers : List ℤ) (rows : List (List Cell)) → fits_at place columns ≡ true → AllByRecursion (IsRowOf columns) rows
-    → AllByRecursion IsCellNumber numbers → AllByRecursion IsCellNumber (fold (λ numbers row. with_number (number_at place row) numbers) numbers rows)
+    → AllByRecursion IsSmall numbers → AllByRecursion IsSmall (fold (λ numbers row. with_number (number_at place row) numbers) numbers rows)
 all-fold place columns numbers [] fit own all = all
 all-fold place columns numbers (row ∷ rows) fit own all =
-    all-fold place columns (with_number (number_at place row) numbers) rows fit own.1 (all-with_number IsCellNumber (number_at place row) numbers (row_number place columns row fit own.0) all)
+    all-fold place columns (with_number (number_at place row) numbers) rows fit own.1 (all-with_number IsSmall (number_at place row) numbers (abs-number_at place columns row fit own.0) all)
 
 -- the number at a place is one of them, or 0
-in_place_number : (numbers : List ℤ) (place : ℕ) → AllByRecursion IsCellNumber numbers → IsCellNumber (number_in_place numbers place)
-in_place_number [] place all = (omega (arith, ints), omega (arith, ints))
+in_place_number : (numbers : List ℤ) (place : ℕ) → AllByRecursion IsSmall numbers → IsSmall (number_in_place numbers place)
+in_place_number [] place all = omega arith
 in_place_number (number ∷ numbers) zero all = all.0
 in_place_number (number ∷ numbers) (suc place) all = in_place_number numbers place all.1
 
 -- no more numbers differ than there are
 length-with_key : (number : ℤ) (numbers : List ℤ) → length (with_key int_cmp number numbers) ≤ length numbers + 1
 length-with_key number [] = omega arith
-length-with_key number (first ∷ later) = choose (is_lt (int_cmp number first)) (is_lt (int_cmp first number))
+length-with_key number (first ∷ later) =
+    let rest : length (with_key int_cmp number later) ≤ length later + 1 = length-with_key number later in
+    choose rest (is_lt (int_cmp number first)) (is_lt (int_cmp first number))
   where
-    choose : (before after : Bool) → length (if before then number ∷ first ∷ later else if after then first ∷ with_key int_cmp number later else first ∷ later) ≤ length (first ∷ later) + 1
-    choose true after = omega arith
-    choose false true = let rest : length (with_key int_cmp number later) ≤ length later + 1 = length-with_key number later in omega arith
-    choose false false = omega arith
+    choose : length (with_key int_cmp number later) ≤ length later + 1 → (before after : Bool)
+        → length (if before then number ∷ first ∷ later else if after then first ∷ with_key int_cmp number later else first ∷ later) ≤ length (first ∷ later) + 1
+    choose rest true after = omega arith
+    choose rest false true = omega arith
+    choose rest false false = omega arith
 
 pub length-distinct_keys : (numbers : List ℤ) → length (distinct_keys int_cmp numbers) ≤ length numbers
 length-distinct_keys [] = omega arith
@@ -184,11 +172,8 @@ length-distinct_keys (number ∷ numbers) =
 
 -- ---- ranks
 
-rank_of_number : (number : ℤ) → IsCellNumber number → IsRank number
-rank_of_number number within =
-    let lower = within.0 in
-    let upper = within.1 in
-    (omega (arith, ints), omega (arith, ints))
+rank_of_number : (number : ℤ) → IsSmall number → IsRank number
+rank_of_number number small = (grind (arith, ints), grind (arith, ints))
 
 rank_of_count : (count : ℕ) → count ≤ ROWS → IsRank (pos count)
 rank_of_count count few = (omega (arith, ints), omega (arith, ints))
@@ -213,7 +198,7 @@ numbers_take_back place = λ columns fit rows row few all own. without_number-wi
 pub numbers_within : (place : ℕ) → RanksWithin (fits_at place) (numbers_of place) numbers_field 4
 numbers_within place = λ columns rows field fit own few fields.
     let numbers = fold_of (numbers_of place) rows in
-    let all : AllByRecursion IsCellNumber numbers = all-fold place columns [] rows fit own tt in
+    let all : AllByRecursion IsSmall numbers = all-fold place columns [] rows fit own tt in
     let many : length numbers ≡ length rows = length-numbers_of place rows in
     let differ : length (distinct_keys int_cmp numbers) ≤ length numbers = length-distinct_keys numbers in
     one_of_four IsRank (field == 0) (field == 1) (field == 2)

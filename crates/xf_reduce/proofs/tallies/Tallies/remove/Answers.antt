@@ -1,5 +1,5 @@
 -- One less of the count of a number is a number less.
-use Rattle.std.proofs.Common.{◌≡◌, ◌+◌, ◌-◌, ◌<◌, ◌≤◌, ◌^◌, ◌==◌, not, cond, length, ap, sym, subst, ◌∙◌, arith}
+use Rattle.std.proofs.Common.{◌≡◌, ◌+◌, ◌-◌, ◌<◌, ◌≤◌, ◌^◌, ◌==◌, not, cond, length, to_z, of_z, to_z-of_z, w64, ap, sym, subst, ◌∙◌, arith}
 use Rattle.xf_reduce.specs.Stock.{without_number}
 use Rattle.xf_reduce.specs.Tallies.{AreTallies, distinct_in, numbers_in}
 use Rattle.xf_reduce.proofs.CountedTallies.{AreTallies-changed, counted, distinct_now, length_now, numbers_in-fewer, numbers_in-none, one_where_some}
@@ -7,12 +7,12 @@ use Rattle.xf_reduce.proofs.tallies.Tallies.remove.Goals as goal
 
 pub returns-then-count-eq0-clause-numbers : goal.returns-then-count-eq0-clause-numbers
 returns-then-count-eq0-clause-numbers c =
-    let placed = counted c.self.inside.counts.entries c.args.number c.count_of-count.result c.self.invariant.ascend c.count_of-count.ensures in
-    subst (λ tallies. numbers_in tallies ≡ without_number c.args.number (numbers_in tallies)) c.self.view_is (numbers_in-none placed c.if-count-eq0.true)
+    let placed = counted c.self.inside.counts.entries (to_z w64 (of_z w64 c.args.number)) c.count_of-count.result c.self.invariant.ascend c.count_of-count.ensures in
+    subst (λ tallies. numbers_in tallies ≡ without_number c.args.number (numbers_in tallies)) c.self.view_is (numbers_in-none placed c.if-count-eq0.true ∙ ap (λ number. without_number number (numbers_in c.self.inside.counts.entries)) (to_z-of_z w64 c.args.number c.ranges.number))
 
 pub overflow_sub-self : goal.overflow_sub-self
 overflow_sub-self c =
-    let placed = counted c.self.inside.counts.entries c.args.number c.count_of-count.result c.self.invariant.ascend c.count_of-count.ensures in
+    let placed = counted c.self.inside.counts.entries (to_z w64 (of_z w64 c.args.number)) c.count_of-count.result c.self.invariant.ascend c.count_of-count.ensures in
     let some = c.if-count-eq0.false in
     let long = c.self.invariant.total in
     let now = length_now placed in
@@ -20,7 +20,7 @@ overflow_sub-self c =
 
 pub overflow_sub-self-then-count-eq1 : goal.overflow_sub-self-then-count-eq1
 overflow_sub-self-then-count-eq1 c =
-    let placed = counted c.self.inside.counts.entries c.args.number c.count_of-count.result c.self.invariant.ascend c.count_of-count.ensures in
+    let placed = counted c.self.inside.counts.entries (to_z w64 (of_z w64 c.args.number)) c.count_of-count.result c.self.invariant.ascend c.count_of-count.ensures in
     let differ = c.self.invariant.distinct in
     let now = distinct_now placed in
     let one = c.if-count-eq1.true in
@@ -29,7 +29,7 @@ overflow_sub-self-then-count-eq1 c =
 
 pub invariant_of-self : goal.invariant_of-self
 invariant_of-self c =
-    let placed = counted c.self.inside.counts.entries c.args.number c.count_of-count.result c.self.invariant.ascend c.count_of-count.ensures in
+    let placed = counted c.self.inside.counts.entries (to_z w64 (of_z w64 c.args.number)) c.count_of-count.result c.self.invariant.ascend c.count_of-count.ensures in
     let count = c.count_of-count.result in
     let one = c.if-count-eq1.true in
     let heavy : cond (not (count == 0)) 1 0 ≡ 1 = one_where_some count (omega arith) in
@@ -43,7 +43,7 @@ invariant_of-self c =
 
 pub invariant_of-self-else-count-eq1 : goal.invariant_of-self-else-count-eq1
 invariant_of-self-else-count-eq1 c =
-    let placed = counted c.self.inside.counts.entries c.args.number c.count_of-count.result c.self.invariant.ascend c.count_of-count.ensures in
+    let placed = counted c.self.inside.counts.entries (to_z w64 (of_z w64 c.args.number)) c.count_of-count.result c.self.invariant.ascend c.count_of-count.ensures in
     let count = c.count_of-count.result in
     let some = c.if-count-eq0.false in
     let more = c.if-count-eq1.false in
@@ -57,16 +57,18 @@ invariant_of-self-else-count-eq1 c =
 
 pub returns-then-count-eq1-clause-numbers : goal.returns-then-count-eq1-clause-numbers
 returns-then-count-eq1-clause-numbers c =
-    let placed = counted c.self.inside.counts.entries c.args.number c.count_of-count.result c.self.invariant.ascend c.count_of-count.ensures in
+    let placed = counted c.self.inside.counts.entries (to_z w64 (of_z w64 c.args.number)) c.count_of-count.result c.self.invariant.ascend c.count_of-count.ensures in
     let some = c.if-count-eq0.false in
     ap numbers_in c.recount.ensures.entries
     ∙ numbers_in-fewer placed (c.count_of-count.result - 1) (omega arith)
-    ∙ ap (λ tallies. without_number c.args.number (numbers_in tallies)) c.self.view_is
+    ∙ ap (λ tallies. without_number (to_z w64 (of_z w64 c.args.number)) (numbers_in tallies)) c.self.view_is
+    ∙ ap (λ number. without_number number (numbers_in c.args.self.now)) (to_z-of_z w64 c.args.number c.ranges.number)
 
 pub returns-else-count-eq1-clause-numbers : goal.returns-else-count-eq1-clause-numbers
 returns-else-count-eq1-clause-numbers c =
-    let placed = counted c.self.inside.counts.entries c.args.number c.count_of-count.result c.self.invariant.ascend c.count_of-count.ensures in
+    let placed = counted c.self.inside.counts.entries (to_z w64 (of_z w64 c.args.number)) c.count_of-count.result c.self.invariant.ascend c.count_of-count.ensures in
     let some = c.if-count-eq0.false in
     ap numbers_in c.recount.ensures.entries
     ∙ numbers_in-fewer placed (c.count_of-count.result - 1) (omega arith)
-    ∙ ap (λ tallies. without_number c.args.number (numbers_in tallies)) c.self.view_is
+    ∙ ap (λ tallies. without_number (to_z w64 (of_z w64 c.args.number)) (numbers_in tallies)) c.self.view_is
+    ∙ ap (λ number. without_number number (numbers_in c.args.self.now)) (to_z-of_z w64 c.args.number c.ranges.number)
