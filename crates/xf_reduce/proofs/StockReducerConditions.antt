@@ -1,12 +1,12 @@
 -- What holds of the value of a reducer of the stock holds of those of its parts, and no value is of another shape.
-use Rattle.std.proofs.Common.{◌≡◌, Bool, true, ◌&&◌, List, ap, ◌∙◌}
+use Rattle.std.proofs.Common.{◌≡◌, Bool, true, ◌&&◌, List, ap, subst₂, ◌∙◌}
 use Rattle.std.proofs.lemmas.Bool.{and_parts}
 use Rattle.xf_base.specs.declared.cell.Cell.{Cell}
 use Rattle.xf_base.specs.declared.column.Column.{Column}
 use Rattle.xf_model.specs.Group.{Reducer, fold_of}
 use Rattle.xf_reduce.specs.Laws.{IsFoldBefore, IsFoldWith, Suits}
 use Rattle.xf_reduce.specs.Simple.{simple_fits, simple_of}
-use Rattle.xf_reduce.specs.StockReducer.{stock_fits, stock_of, stock_step}
+use Rattle.xf_reduce.specs.StockReducer.{stock_fits, stock_meaning, stock_of, stock_step}
 use Rattle.xf_reduce.specs.StockReducerLaws.{fold_of-one, fold_of-two}
 use Rattle.xf_reduce.specs.declared.simple.Simple.{Simple}
 use Rattle.xf_reduce.specs.declared.simple.SimpleMeaning.{SimpleMeaning}
@@ -14,7 +14,16 @@ use Rattle.xf_reduce.specs.declared.stock_reducer.StockMeaning.{StockMeaning}
 use Rattle.xf_reduce.specs.declared.stock_reducer.StockMeaning.TheVariants as meaning
 use Rattle.xf_reduce.specs.declared.stock_reducer.StockReducer.{StockReducer}
 use Rattle.xf_reduce.specs.declared.stock_reducer.StockReducer.TheVariants as stock
+use Rattle.xf_reduce.specs.declared.stock_reducer.StockValue.{StockValue}
 use Rattle.xf_reduce.proofs.Conditions.{suits_wider}
+
+-- ---- of a reducer and a value that are known
+
+pub before_known : (reducer known : StockReducer) (value kept : StockValue) (row : List Cell) → reducer ≡ known → value ≡ kept → IsFoldBefore (stock_fits reducer) (stock_of reducer) (stock_meaning value) row → IsFoldBefore (stock_fits known) (stock_of known) (stock_meaning kept) row
+before_known reducer known value kept row same alike before = subst₂ (λ reducer value. IsFoldBefore (stock_fits reducer) (stock_of reducer) (stock_meaning value) row) same alike before
+
+pub with_known : (reducer known : StockReducer) (value kept : StockValue) (row : List Cell) → reducer ≡ known → value ≡ kept → IsFoldWith (stock_fits reducer) (stock_of reducer) (stock_meaning value) row → IsFoldWith (stock_fits known) (stock_of known) (stock_meaning kept) row
+with_known reducer known value kept row same alike among = subst₂ (λ reducer value. IsFoldWith (stock_fits reducer) (stock_of reducer) (stock_meaning value) row) same alike among
 
 -- ---- of one part
 
