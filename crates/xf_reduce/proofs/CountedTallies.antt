@@ -199,7 +199,7 @@ module _ {tallies : List (ℤ × ℕ)} {number : ℤ} {count : ℕ} (placed : Co
 
   differ_around : (many : ℕ) → distinct_in (placed.before ++ (number, many) ∷ placed.after) ≡ distinct_in placed.before + cond (not (many == 0)) 1 0 + distinct_in placed.after
   differ_around many =
-      let weight = λ (tally : ℤ × ℕ). cond (not (tally.1 == 0)) 1 0 in
+      let weight = λ (tally : ℤ × ℕ). cond {A = ℕ} (not (tally.1 == 0)) 1 0 in
       let own : sum_by weight ((number, many) ∷ placed.after) ≡ cond (not (many == 0)) 1 0 + sum_by weight placed.after = sum_by-cons weight (number, many) placed.after in
       sum_by-append weight placed.before ((number, many) ∷ placed.after) ∙ omega arith
 
@@ -238,7 +238,7 @@ numbers_in-entered {number = number} placed =
 -- nor how many differ
 pub distinct_in-entered : {tallies : List (ℤ × ℕ)} {number : ℤ} → Uncounted tallies number → distinct_in (insert_entry int_cmp tallies number 0) ≡ distinct_in tallies
 distinct_in-entered {number = number} placed =
-    let weight = λ (tally : ℤ × ℕ). cond (not (tally.1 == 0)) 1 0 in
+    let weight = λ (tally : ℤ × ℕ). cond {A = ℕ} (not (tally.1 == 0)) 1 0 in
     let own : sum_by weight ((number, 0) ∷ placed.after) ≡ 0 + sum_by weight placed.after = sum_by-cons weight (number, 0) placed.after in
     let whole : sum_by weight (placed.before ++ placed.after) ≡ sum_by weight placed.before + sum_by weight placed.after = sum_by-append weight placed.before placed.after in
     let more : sum_by weight (placed.before ++ (number, 0) ∷ placed.after) ≡ sum_by weight placed.before + sum_by weight ((number, 0) ∷ placed.after) = sum_by-append weight placed.before ((number, 0) ∷ placed.after) in
@@ -261,17 +261,17 @@ one_where_some count some = let test : (count == 0) ≡ false = ne_eqb count 0 (
 pub distinct_in-le : (tallies : List (ℤ × ℕ)) → distinct_in tallies ≤ length (numbers_in tallies)
 distinct_in-le [] = omega arith
 distinct_in-le (tally ∷ tallies) =
-    let weight = λ (tally : ℤ × ℕ). cond (not (tally.1 == 0)) 1 0 in
+    let weight = λ (tally : ℤ × ℕ). cond {A = ℕ} (not (tally.1 == 0)) 1 0 in
     let cons : sum_by weight (tally ∷ tallies) ≡ cond (not (tally.1 == 0)) 1 0 + sum_by weight tallies = sum_by-cons weight tally tallies in
     let joined : length (replicate tally.1 tally.0 ++ numbers_in tallies) ≡ length (replicate tally.1 tally.0) + length (numbers_in tallies) = length-append (replicate tally.1 tally.0) (numbers_in tallies) in
     let own : length (replicate tally.1 tally.0) ≡ tally.1 = length-replicate tally.1 tally.0 in
     let rest : distinct_in tallies ≤ length (numbers_in tallies) = distinct_in-le tallies in
-    let light : cond (not (tally.1 == 0)) 1 0 ≤ tally.1 = one_or_none tally.1 in
+    let light : cond {A = ℕ} (not (tally.1 == 0)) 1 0 ≤ tally.1 = one_or_none tally.1 in
     omega arith
   where
     one_or_none : (count : ℕ) → cond (not (count == 0)) 1 0 ≤ count
     one_or_none zero = omega arith
-    one_or_none (suc count) = let one : cond (not (suc count == 0)) 1 0 ≡ 1 = one_where_some (suc count) (omega arith) in omega arith
+    one_or_none (suc count) = let one : cond {A = ℕ} (not (suc count == 0)) 1 0 ≡ 1 = one_where_some (suc count) (omega arith) in omega arith
 
 -- ---- how many differ
 
@@ -288,7 +288,7 @@ pub length-distinct_keys-numbers_in : (tallies : List (ℤ × ℕ)) → IsStrict
 length-distinct_keys-numbers_in [] sorted = refl
 length-distinct_keys-numbers_in (tally ∷ tallies) sorted =
     let numbers = map (λ (tally : ℤ × ℕ). tally.0) tallies in
-    let weight = λ (tally : ℤ × ℕ). cond (not (tally.1 == 0)) 1 0 in
+    let weight = λ (tally : ℤ × ℕ). cond {A = ℕ} (not (tally.1 == 0)) 1 0 in
     let above = all-numbers_in (λ x. int_cmp tally.0 x ≡ Less) tallies (sorted_head int_cmp tally.0 numbers sorted) in
     let rest : length (distinct_keys int_cmp (numbers_in tallies)) ≡ distinct_in tallies = length-distinct_keys-numbers_in tallies (sorted_tail int_cmp tally.0 numbers sorted) in
     choose tally.1 above ∙ ap (λ many. cond (not (tally.1 == 0)) 1 0 + many) rest ∙ sym (sum_by-cons weight tally tallies)
@@ -296,7 +296,7 @@ length-distinct_keys-numbers_in (tally ∷ tallies) sorted =
     choose : (count : ℕ) → AllByRecursion (λ x. int_cmp tally.0 x ≡ Less) (numbers_in tallies) → length (distinct_keys int_cmp (replicate count tally.0 ++ numbers_in tallies)) ≡ cond (not (count == 0)) 1 0 + length (distinct_keys int_cmp (numbers_in tallies))
     choose zero above = omega arith
     choose (suc count) above =
-        let one : cond (not (suc count == 0)) 1 0 ≡ 1 = one_where_some (suc count) (omega arith) in
+        let one : cond {A = ℕ} (not (suc count == 0)) 1 0 ≡ 1 = one_where_some (suc count) (omega arith) in
         ap length (distinct_keys-replicate tally.0 count (numbers_in tallies) above) ∙ omega arith
 
 -- ---- the number at a place
