@@ -1,5 +1,5 @@
 -- Tallies around that of one number: what they tell of all numbers, and what they become where its count changes.
-use Rattle.std.proofs.Common.{◌≡◌, ℕ, zero, suc, ◌+◌, ◌-◌, ◌<◌, ◌≤◌, Bool, true, false, not, cond, ◌==◌, if◌then◌else◌, Ordering, ℤ, pos, List, [], ◌∷◌, ◌++◌, map, flat_map, length, replicate, get_or, sum_by, count_by, Option, Some, None, is_some, unwrap_or, Result, Ok, Err, OnOk, OnErr, Less, Equal, Greater, refl, sym, ap, ap₂, subst, ◌∙◌, true≢false, add-one, ne_eqb, length-append, arith}
+use Rattle.std.proofs.Common.{◌≡◌, ℕ, zero, suc, ◌+◌, ◌-◌, ◌<◌, ◌≤◌, Bool, true, false, not, cond, ◌==◌, if◌then◌else◌, Ordering, ℤ, pos, List, [], ◌∷◌, ◌++◌, map, length, replicate, sum_by, Option, Some, None, is_some, unwrap_or, Result, Ok, Err, OnOk, OnErr, Less, Equal, Greater, refl, sym, ap, ap₂, subst, ◌∙◌, true≢false, add-one, ne_eqb, length-append, arith}
 use Rattle.std.specs.BTreeMap.{insert_entry, is_at}
 use Rattle.std.specs.FinMap.{int_cmp-IsAntisymmetric}
 use Rattle.std.specs.List.{AllByRecursion}
@@ -7,7 +7,7 @@ use Rattle.std.specs.List.Sorted.{IsStrictlySortedBy}
 use Rattle.std.specs.Map.{lookup}
 use Rattle.std.specs.Ordering.{int_cmp, is_eq, is_lt, match_ordering, ordering_reverse}
 use Rattle.std.proofs.lemmas.Cmp.{int_cmp_total, tied_itself}
-use Rattle.std.proofs.lemmas.List.{append_assoc, map-append, length-replicate, get_or-replicate, get_or_append_left, get_or-append_right}
+use Rattle.std.proofs.lemmas.List.{map-append, length-replicate, get_or-replicate, get_or_append_left, get_or-append_right}
 use Rattle.std.proofs.lemmas.List.Concat.{flat_map-append}
 use Rattle.std.proofs.lemmas.List.Sums.{sum_by-append, sum_by-cons}
 use Rattle.std.proofs.lemmas.Map.{lookup-none}
@@ -15,10 +15,10 @@ use Rattle.std.proofs.lemmas.Map.Entries.{none_below_head}
 use Rattle.std.proofs.lemmas.Map.Keys.{sorted_head, sorted_tail}
 use Rattle.std.proofs.lemmas.Option.{none-some, same_Some}
 use Rattle.xf_model.specs.Group.{distinct_keys, with_key}
-use Rattle.xf_model.proofs.AscendingKeys.{by_order, all_implies, all-distinct_keys, with_key_least}
+use Rattle.xf_model.proofs.AscendingKeys.{by_order, all-distinct_keys, with_key_least}
 use Rattle.xf_reduce.specs.NumbersLaws.{with_number_later, with_number_here, without_number_here, without_number_later}
 use Rattle.xf_reduce.specs.Stock.{number_in_place, with_number, without_number}
-use Rattle.xf_reduce.specs.Tallies.{AreTallies, HasTally, StaysEntered, distinct_in, numbers_in}
+use Rattle.xf_reduce.specs.Tallies.{AreTallies, StaysEntered, distinct_in, numbers_in}
 
 -- ---- what holds of each of a list
 

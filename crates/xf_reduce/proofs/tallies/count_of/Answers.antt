@@ -1,5 +1,5 @@
 -- What is found of a number that is entered is its count.
-use Rattle.std.proofs.Common.{◌≡◌, ℤ, is_some, true, Some, rules, int_cmp, is_eq, to_z, of_z, to_z-of_z, w64, ap, ◌∙◌, unwrap_or, sym, subst}
+use Rattle.std.proofs.Common.{ℤ, int_cmp, is_eq, to_z-of_z, ap, ◌∙◌, unwrap_or}
 use Rattle.std.specs.Map.{lookup}
 use Rattle.xf_reduce.proofs.CountedTallies.{found_count}
 use Rattle.xf_reduce.proofs.tallies.count_of.Goals as goal

@@ -1,7 +1,6 @@
 -- Memory is refused only for a number that is new.
-use Rattle.std.proofs.Common.{◌≡◌, sym, ap, subst, ◌∙◌, is_some, int_cmp, is_eq, to_z, of_z, to_z-of_z, w64, true≢false}
+use Rattle.std.proofs.Common.{sym, ap, subst, ◌∙◌, is_some, int_cmp, to_z, of_z, to_z-of_z, w64, true≢false}
 use Rattle.std.specs.BTreeMap.{insert_entry}
-use Rattle.std.specs.Map.{lookup}
 use Rattle.xf_reduce.specs.Tallies.{HasTally}
 use Rattle.xf_reduce.proofs.CountedTallies.{only_ok, stays_entered}
 use Rattle.xf_reduce.proofs.tallies.recount.Goals as goal

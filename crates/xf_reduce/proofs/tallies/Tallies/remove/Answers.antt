@@ -1,7 +1,7 @@
 -- One less of the count of a number is a number less.
-use Rattle.std.proofs.Common.{◌≡◌, ℕ, ◌+◌, ◌-◌, ◌<◌, ◌≤◌, ◌^◌, ◌==◌, not, cond, length, to_z, of_z, to_z-of_z, w64, ap, sym, subst, ◌∙◌, arith}
+use Rattle.std.proofs.Common.{◌≡◌, ℕ, ◌-◌, ◌==◌, not, cond, to_z, of_z, to_z-of_z, w64, ap, sym, subst, ◌∙◌, arith}
 use Rattle.xf_reduce.specs.Stock.{without_number}
-use Rattle.xf_reduce.specs.Tallies.{AreTallies, distinct_in, numbers_in}
+use Rattle.xf_reduce.specs.Tallies.{AreTallies, numbers_in}
 use Rattle.xf_reduce.proofs.CountedTallies.{AreTallies-changed, counted, distinct_now, length_now, numbers_in-fewer, numbers_in-none, one_where_some}
 use Rattle.xf_reduce.proofs.tallies.Tallies.remove.Goals as goal
 
