@@ -1,16 +1,15 @@
 -- What holds of the value of a reducer of the stock holds of those of its parts, and no value is of another shape.
-use Rattle.std.proofs.Common.{◌≡◌, Bool, true, ◌&&◌, List, ap, subst₂, ◌∙◌}
+use Rattle.std.proofs.Common.{◌≡◌, true, List, ap, subst₂, ◌∙◌}
 use Rattle.std.proofs.lemmas.Bool.{and_parts}
 use Rattle.xf_base.specs.declared.cell.Cell.{Cell}
 use Rattle.xf_base.specs.declared.column.Column.{Column}
-use Rattle.xf_model.specs.Group.{Reducer, fold_of}
+use Rattle.xf_model.specs.Group.{fold_of}
 use Rattle.xf_reduce.specs.Laws.{IsFoldBefore, IsFoldWith, Suits}
 use Rattle.xf_reduce.specs.Simple.{simple_fits, simple_of}
 use Rattle.xf_reduce.specs.StockReducer.{stock_fits, stock_meaning, stock_of, stock_step}
 use Rattle.xf_reduce.specs.StockReducerLaws.{fold_of-one, fold_of-two}
 use Rattle.xf_reduce.specs.declared.simple.Simple.{Simple}
 use Rattle.xf_reduce.specs.declared.simple.SimpleMeaning.{SimpleMeaning}
-use Rattle.xf_reduce.specs.declared.stock_reducer.StockMeaning.{StockMeaning}
 use Rattle.xf_reduce.specs.declared.stock_reducer.StockMeaning.TheVariants as meaning
 use Rattle.xf_reduce.specs.declared.stock_reducer.StockReducer.{StockReducer}
 use Rattle.xf_reduce.specs.declared.stock_reducer.StockReducer.TheVariants as stock
