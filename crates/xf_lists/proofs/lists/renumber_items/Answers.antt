@@ -10,8 +10,9 @@ loop-place-preserved c =
     let items = c.loop-place.items in
     let place = c.loop-place.place in
     let item = get_or items place 0 in
-    let within : place < length items = omega (arith, c.loop-place-test.true, c.loop-place.auto.items) in
-    map_over_more (slice_index c.args.numbers.now) c.args.items.now items place item c.loop-place-test.true c.loop-place.invariant (get_or_default items place 0 item within)
+    let early : place < length c.args.items.now = omega arith in
+    let within : place < length items = omega arith in
+    map_over_more (slice_index c.args.numbers.now) c.args.items.now items place item early c.loop-place.invariant (get_or_default items place 0 item within)
 
 pub returns : goal.returns
 returns c = c.loop-place.invariant ∙ changed-all (slice_index c.args.numbers.now) c.args.items.now c.loop-place.place (search rules)
