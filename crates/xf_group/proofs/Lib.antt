@@ -1,0 +1,3 @@
+pub mod HalvedDigits
+pub mod AscendingEntries
+pub mod PlacedKeys
