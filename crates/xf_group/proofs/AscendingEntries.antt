@@ -31,10 +31,10 @@ sorted_places {X} {K} cmp f (x ∷ xs) sorted zero (suc j) d before inside =
     All-from_recursion (λ y. cmp (f x) (f y) ≡ Less) xs (all_of_map (λ y. cmp (f x) y ≡ Less) f xs sorted.0) j d (omega (arith, inside))
 sorted_places cmp f (x ∷ xs) sorted (suc i) (suc j) d before inside = sorted_places cmp f xs sorted.1 i j d (omega (arith, before)) (omega (arith, inside))
 
-less_back : {K : Type 0} {cmp : K → K → Ordering} → IsTotalOrder cmp → (x y : K) → cmp x y ≡ Less → cmp y x ≡ Greater
+pub less_back : {K : Type 0} {cmp : K → K → Ordering} → IsTotalOrder cmp → (x y : K) → cmp x y ≡ Less → cmp y x ≡ Greater
 less_back order x y less = order.antisymm y x ∙ ap ordering_reverse less
 
-greater_turned : {K : Type 0} {cmp : K → K → Ordering} → IsTotalOrder cmp → (x y : K) → cmp x y ≡ Greater → cmp y x ≡ Less
+pub greater_turned : {K : Type 0} {cmp : K → K → Ordering} → IsTotalOrder cmp → (x y : K) → cmp x y ≡ Greater → cmp y x ≡ Less
 greater_turned order x y greater = order.antisymm y x ∙ ap ordering_reverse greater
 
 -- the key of an entry at a place

@@ -1,3 +1,4 @@
 pub mod HalvedDigits
 pub mod AscendingEntries
 pub mod PlacedKeys
+pub mod KeptEntries

@@ -31,11 +31,11 @@ all_then P Q step [] all = tt
 all_then P Q step (x ∷ xs) all = (step x all.0, all_then P Q step xs all.1)
 
 or_left : (a b : Bool) → a ≡ true → (a || b) ≡ true
-or_left a b yes = rw yes refl
+or_left a b held = rw held refl
 
 or_right : (a b : Bool) → b ≡ true → (a || b) ≡ true
-or_right true b yes = refl
-or_right false b yes = yes
+or_right true b held = refl
+or_right false b held = held
 
 -- the keys at positions that are within are the keys there
 pub keys_within : (keys : List Key) (positions : List ℕ) (d : Key) → AllByRecursion (λ position. position < length keys) positions → keys_at_positions keys positions ≡ map (λ position. get_or keys position d) positions
@@ -169,27 +169,27 @@ renumbered_within old new number (own ∷ rest) all same = (renumbered_within_li
 
 -- a test that the key at a position passes is passed by some key
 any_at : {X : Type 0} (test : X → Bool) (xs : List X) (k : ℕ) (d : X) → k < length xs → test (get_or xs k d) ≡ true → list_any test xs ≡ true
-any_at test [] k d inside yes = absurd (omega (arith, inside))
-any_at test (x ∷ xs) zero d inside yes = or_left (test x) (list_any test xs) yes
-any_at test (x ∷ xs) (suc k) d inside yes = or_right (test x) (list_any test xs) (any_at test xs k d (omega (arith, inside)) yes)
+any_at test [] k d inside held = absurd (omega (arith, inside))
+any_at test (x ∷ xs) zero d inside held = or_left (test x) (list_any test xs) held
+any_at test (x ∷ xs) (suc k) d inside held = or_right (test x) (list_any test xs) (any_at test xs k d (omega (arith, inside)) held)
 
 pub or_cases : {P : Type 0} (a b : Bool) → (a || b) ≡ true → (a ≡ true → P) → (b ≡ true → P) → P
-or_cases true b yes left right = left refl
-or_cases false b yes left right = right yes
+or_cases true b held left right = left refl
+or_cases false b held left right = right held
 
 mapped_within : (test : Key → Bool) (keys : List Key) (positions : List ℕ) (d : Key) → AllByRecursion (λ position. position < length keys) positions → list_any test (map (λ position. get_or keys position d) positions) ≡ true → list_any test keys ≡ true
-mapped_within test keys [] d all yes = absurd cc
-mapped_within test keys (p ∷ ps) d all yes =
-    or_cases (test (get_or keys p d)) (list_any test (map (λ position. get_or keys position d) ps)) yes
+mapped_within test keys [] d all held = absurd cc
+mapped_within test keys (p ∷ ps) d all held =
+    or_cases (test (get_or keys p d)) (list_any test (map (λ position. get_or keys position d) ps)) held
         (λ here. any_at test keys p d all.0 here)
         (λ later. mapped_within test keys ps d all.1 later)
 
 -- a key that is among those of some place is among all
 pub among_within : (keys : List Key) (places : List (List ℕ)) (q : Key) → AreWithin (length keys) places → is_among key_cmp (all_keys (key_lists keys places)) q ≡ true → is_among key_cmp keys q ≡ true
-among_within keys [] q all yes = absurd cc
-among_within keys (own ∷ rest) q all yes =
+among_within keys [] q all held = absurd cc
+among_within keys (own ∷ rest) q all held =
     let test : Key → Bool = λ own. is_eq (key_cmp q own) in
     let later : List Key = all_keys (key_lists keys rest) in
-    or_cases (list_any test (keys_at_positions keys own)) (list_any test later) (sym (list_any-append test (keys_at_positions keys own) later) ∙ yes)
+    or_cases (list_any test (keys_at_positions keys own)) (list_any test later) (sym (list_any-append test (keys_at_positions keys own) later) ∙ held)
         (λ here. mapped_within test keys own some_key all.0 (sym (ap (list_any test) (keys_within keys own some_key all.0)) ∙ here))
         (λ there. among_within keys rest q all.1 there)
