@@ -2,3 +2,4 @@ pub mod HalvedDigits
 pub mod AscendingEntries
 pub mod PlacedKeys
 pub mod KeptEntries
+pub mod UnusedDropped
