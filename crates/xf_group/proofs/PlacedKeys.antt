@@ -54,7 +54,7 @@ eqb-less i j lt = grind (arith, nat_tests)
 eqb-more : (i j : ℕ) → j < i → eqb i j ≡ false
 eqb-more i j lt = grind (arith, nat_tests)
 
-eqb-same : (i : ℕ) → eqb i i ≡ true
+pub eqb-same : (i : ℕ) → eqb i i ≡ true
 eqb-same i = grind (arith, nat_tests)
 
 -- two of them tie only where they stand at one place
