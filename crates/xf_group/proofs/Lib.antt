@@ -6,3 +6,4 @@ pub mod UnusedDropped
 pub mod ChangedEach
 pub mod RanksMore
 pub mod GroupHeld
+pub mod ChangedGroup
