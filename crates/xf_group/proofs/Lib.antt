@@ -7,3 +7,4 @@ pub mod ChangedEach
 pub mod RanksMore
 pub mod GroupHeld
 pub mod ChangedGroup
+pub mod DroppedGroup
