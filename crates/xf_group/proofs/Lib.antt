@@ -8,3 +8,5 @@ pub mod RanksMore
 pub mod GroupHeld
 pub mod ChangedGroup
 pub mod DroppedGroup
+pub mod RisingOnce
+pub mod RankedPairs
