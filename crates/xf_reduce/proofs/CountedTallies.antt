@@ -1,5 +1,5 @@
 -- Tallies around that of one number: what they tell of all numbers, and what they become where its count changes.
-use Rattle.std.proofs.Common.{◌≡◌, ℕ, zero, suc, ◌+◌, ◌-◌, ◌<◌, ◌≤◌, Bool, true, false, not, cond, ◌==◌, if◌then◌else◌, Ordering, ℤ, pos, List, [], ◌∷◌, ◌++◌, map, flat_map, length, replicate, get_or, sum_by, count_by, Option, Some, None, is_some, unwrap_or, Result, Ok, Err, OnOk, OnErr, Less, Equal, Greater, refl, sym, ap, ap₂, subst, ◌∙◌, true≢false, add-one, ne_eqb, length-append, arith}
+use Rattle.std.proofs.Common.{◌≡◌, ℕ, zero, suc, ◌+◌, ◌-◌, ◌<◌, ◌≤◌, Bool, true, false, not, cond, ◌==◌, if◌then◌else◌, Ordering, ℤ, pos, List, [], ◌∷◌, ◌++◌, map, length, replicate, sum_by, Option, Some, None, is_some, unwrap_or, Result, Ok, Err, OnOk, OnErr, Less, Equal, Greater, refl, sym, ap, ap₂, subst, ◌∙◌, true≢false, add-one, ne_eqb, length-append, arith}
 use Rattle.std.specs.BTreeMap.{insert_entry, is_at}
 use Rattle.std.specs.FinMap.{int_cmp-IsAntisymmetric}
 use Rattle.std.specs.List.{AllByRecursion}
@@ -7,7 +7,7 @@ use Rattle.std.specs.List.Sorted.{IsStrictlySortedBy}
 use Rattle.std.specs.Map.{lookup}
 use Rattle.std.specs.Ordering.{int_cmp, is_eq, is_lt, match_ordering, ordering_reverse}
 use Rattle.std.proofs.lemmas.Cmp.{int_cmp_total, tied_itself}
-use Rattle.std.proofs.lemmas.List.{append_assoc, map-append, length-replicate, get_or-replicate, get_or_append_left, get_or-append_right}
+use Rattle.std.proofs.lemmas.List.{map-append, length-replicate, get_or-replicate, get_or_append_left, get_or-append_right}
 use Rattle.std.proofs.lemmas.List.Concat.{flat_map-append}
 use Rattle.std.proofs.lemmas.List.Sums.{sum_by-append, sum_by-cons}
 use Rattle.std.proofs.lemmas.Map.{lookup-none}
@@ -15,10 +15,10 @@ use Rattle.std.proofs.lemmas.Map.Entries.{none_below_head}
 use Rattle.std.proofs.lemmas.Map.Keys.{sorted_head, sorted_tail}
 use Rattle.std.proofs.lemmas.Option.{none-some, same_Some}
 use Rattle.xf_model.specs.Group.{distinct_keys, with_key}
-use Rattle.xf_model.proofs.AscendingKeys.{by_order, all_implies, all-distinct_keys, with_key_least}
+use Rattle.xf_model.proofs.AscendingKeys.{by_order, all-distinct_keys, with_key_least}
 use Rattle.xf_reduce.specs.NumbersLaws.{with_number_later, with_number_here, without_number_here, without_number_later}
 use Rattle.xf_reduce.specs.Stock.{number_in_place, with_number, without_number}
-use Rattle.xf_reduce.specs.Tallies.{AreTallies, HasTally, StaysEntered, distinct_in, numbers_in}
+use Rattle.xf_reduce.specs.Tallies.{AreTallies, StaysEntered, distinct_in, numbers_in}
 
 -- ---- what holds of each of a list
 
@@ -199,7 +199,7 @@ module _ {tallies : List (ℤ × ℕ)} {number : ℤ} {count : ℕ} (placed : Co
 
   differ_around : (many : ℕ) → distinct_in (placed.before ++ (number, many) ∷ placed.after) ≡ distinct_in placed.before + cond (not (many == 0)) 1 0 + distinct_in placed.after
   differ_around many =
-      let weight = λ (tally : ℤ × ℕ). cond (not (tally.1 == 0)) 1 0 in
+      let weight = λ (tally : ℤ × ℕ). cond {A = ℕ} (not (tally.1 == 0)) 1 0 in
       let own : sum_by weight ((number, many) ∷ placed.after) ≡ cond (not (many == 0)) 1 0 + sum_by weight placed.after = sum_by-cons weight (number, many) placed.after in
       sum_by-append weight placed.before ((number, many) ∷ placed.after) ∙ omega arith
 
@@ -238,7 +238,7 @@ numbers_in-entered {number = number} placed =
 -- nor how many differ
 pub distinct_in-entered : {tallies : List (ℤ × ℕ)} {number : ℤ} → Uncounted tallies number → distinct_in (insert_entry int_cmp tallies number 0) ≡ distinct_in tallies
 distinct_in-entered {number = number} placed =
-    let weight = λ (tally : ℤ × ℕ). cond (not (tally.1 == 0)) 1 0 in
+    let weight = λ (tally : ℤ × ℕ). cond {A = ℕ} (not (tally.1 == 0)) 1 0 in
     let own : sum_by weight ((number, 0) ∷ placed.after) ≡ 0 + sum_by weight placed.after = sum_by-cons weight (number, 0) placed.after in
     let whole : sum_by weight (placed.before ++ placed.after) ≡ sum_by weight placed.before + sum_by weight placed.after = sum_by-append weight placed.before placed.after in
     let more : sum_by weight (placed.before ++ (number, 0) ∷ placed.after) ≡ sum_by weight placed.before + sum_by weight ((number, 0) ∷ placed.after) = sum_by-append weight placed.before ((number, 0) ∷ placed.after) in
@@ -261,17 +261,17 @@ one_where_some count some = let test : (count == 0) ≡ false = ne_eqb count 0 (
 pub distinct_in-le : (tallies : List (ℤ × ℕ)) → distinct_in tallies ≤ length (numbers_in tallies)
 distinct_in-le [] = omega arith
 distinct_in-le (tally ∷ tallies) =
-    let weight = λ (tally : ℤ × ℕ). cond (not (tally.1 == 0)) 1 0 in
+    let weight = λ (tally : ℤ × ℕ). cond {A = ℕ} (not (tally.1 == 0)) 1 0 in
     let cons : sum_by weight (tally ∷ tallies) ≡ cond (not (tally.1 == 0)) 1 0 + sum_by weight tallies = sum_by-cons weight tally tallies in
     let joined : length (replicate tally.1 tally.0 ++ numbers_in tallies) ≡ length (replicate tally.1 tally.0) + length (numbers_in tallies) = length-append (replicate tally.1 tally.0) (numbers_in tallies) in
     let own : length (replicate tally.1 tally.0) ≡ tally.1 = length-replicate tally.1 tally.0 in
     let rest : distinct_in tallies ≤ length (numbers_in tallies) = distinct_in-le tallies in
-    let light : cond (not (tally.1 == 0)) 1 0 ≤ tally.1 = one_or_none tally.1 in
+    let light : cond {A = ℕ} (not (tally.1 == 0)) 1 0 ≤ tally.1 = one_or_none tally.1 in
     omega arith
   where
     one_or_none : (count : ℕ) → cond (not (count == 0)) 1 0 ≤ count
     one_or_none zero = omega arith
-    one_or_none (suc count) = let one : cond (not (suc count == 0)) 1 0 ≡ 1 = one_where_some (suc count) (omega arith) in omega arith
+    one_or_none (suc count) = let one : cond {A = ℕ} (not (suc count == 0)) 1 0 ≡ 1 = one_where_some (suc count) (omega arith) in omega arith
 
 -- ---- how many differ
 
@@ -288,7 +288,7 @@ pub length-distinct_keys-numbers_in : (tallies : List (ℤ × ℕ)) → IsStrict
 length-distinct_keys-numbers_in [] sorted = refl
 length-distinct_keys-numbers_in (tally ∷ tallies) sorted =
     let numbers = map (λ (tally : ℤ × ℕ). tally.0) tallies in
-    let weight = λ (tally : ℤ × ℕ). cond (not (tally.1 == 0)) 1 0 in
+    let weight = λ (tally : ℤ × ℕ). cond {A = ℕ} (not (tally.1 == 0)) 1 0 in
     let above = all-numbers_in (λ x. int_cmp tally.0 x ≡ Less) tallies (sorted_head int_cmp tally.0 numbers sorted) in
     let rest : length (distinct_keys int_cmp (numbers_in tallies)) ≡ distinct_in tallies = length-distinct_keys-numbers_in tallies (sorted_tail int_cmp tally.0 numbers sorted) in
     choose tally.1 above ∙ ap (λ many. cond (not (tally.1 == 0)) 1 0 + many) rest ∙ sym (sum_by-cons weight tally tallies)
@@ -296,7 +296,7 @@ length-distinct_keys-numbers_in (tally ∷ tallies) sorted =
     choose : (count : ℕ) → AllByRecursion (λ x. int_cmp tally.0 x ≡ Less) (numbers_in tallies) → length (distinct_keys int_cmp (replicate count tally.0 ++ numbers_in tallies)) ≡ cond (not (count == 0)) 1 0 + length (distinct_keys int_cmp (numbers_in tallies))
     choose zero above = omega arith
     choose (suc count) above =
-        let one : cond (not (suc count == 0)) 1 0 ≡ 1 = one_where_some (suc count) (omega arith) in
+        let one : cond {A = ℕ} (not (suc count == 0)) 1 0 ≡ 1 = one_where_some (suc count) (omega arith) in
         ap length (distinct_keys-replicate tally.0 count (numbers_in tallies) above) ∙ omega arith
 
 -- ---- the number at a place

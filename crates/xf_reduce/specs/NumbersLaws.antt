@@ -1,5 +1,5 @@
 -- The laws of the part of the stock that keeps numbers.
-use Rattle.std.proofs.Common.{◌≡◌, ℕ, zero, suc, ◌+◌, ◌-◌, ◌/◌, ◌<◌, ◌≤◌, Bool, true, false, ◌==◌, if◌then◌else◌, Some, ℤ, pos, nat_abs, List, [], ◌∷◌, length, fold, get_or, Less, Equal, Greater, refl, sym, ap, ◌∙◌, true≢false, lit≤, arith}
+use Rattle.std.proofs.Common.{◌≡◌, ℕ, zero, suc, ◌+◌, ◌-◌, ◌/◌, ◌≤◌, Bool, true, false, ◌==◌, if◌then◌else◌, ℤ, pos, nat_abs, List, [], ◌∷◌, length, fold, Less, Equal, Greater, refl, sym, ap, ◌∙◌, lit≤, arith}
 use Rattle.std.specs.FinMap.{int_cmp-IsAntisymmetric}
 use Rattle.std.specs.List.{AllByRecursion}
 use Rattle.std.specs.Ordering.{int_cmp, is_eq, is_lt, ordering_reverse}

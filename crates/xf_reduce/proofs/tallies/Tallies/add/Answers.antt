@@ -1,7 +1,7 @@
 -- One more of the count of a number is a number more.
-use Rattle.std.proofs.Common.{◌≡◌, ◌+◌, ◌-◌, ◌<◌, ◌≤◌, ◌^◌, ◌==◌, not, cond, length, to_z, of_z, to_z-of_z, w64, ap, sym, subst, ◌∙◌, arith}
+use Rattle.std.proofs.Common.{◌≡◌, ℕ, ◌+◌, ◌<◌, ◌^◌, ◌==◌, not, cond, length, to_z, of_z, to_z-of_z, w64, ap, sym, subst, ◌∙◌, arith}
 use Rattle.xf_reduce.specs.Stock.{with_number}
-use Rattle.xf_reduce.specs.Tallies.{AreTallies, distinct_in, numbers_in}
+use Rattle.xf_reduce.specs.Tallies.{AreTallies, numbers_in}
 use Rattle.xf_reduce.proofs.CountedTallies.{AreTallies-changed, counted, distinct_in-le, length_now, numbers_in-more, one_where_some}
 use Rattle.xf_reduce.proofs.tallies.Tallies.add.Goals as goal
 
@@ -24,8 +24,8 @@ invariant_of-self c =
     let placed = counted c.self.inside.counts.entries (to_z w64 (of_z w64 c.args.number)) c.count_of-count.result c.self.invariant.ascend c.count_of-count.ensures in
     let count = c.count_of-count.result in
     let none = c.if-count-eq0.true in
-    let light : cond (not (count == 0)) 1 0 ≡ 0 = ap (λ many. cond (not (many == 0)) 1 0) none in
-    let heavy : cond (not (count + 1 == 0)) 1 0 ≡ 1 = one_where_some (count + 1) (omega arith) in
+    let light : cond {A = ℕ} (not (count == 0)) 1 0 ≡ 0 = ap (λ many. cond {A = ℕ} (not (many == 0)) 1 0) none in
+    let heavy : cond {A = ℕ} (not (count + 1 == 0)) 1 0 ≡ 1 = one_where_some (count + 1) (omega arith) in
     let differ = c.self.invariant.distinct in
     let long = c.self.invariant.total in
     subst (λ tallies. AreTallies tallies (c.self.inside.distinct + 1) (c.self.inside.total + 1)) (sym c.recount.ensures.entries)
@@ -36,8 +36,8 @@ invariant_of-self-else-count-eq0 c =
     let placed = counted c.self.inside.counts.entries (to_z w64 (of_z w64 c.args.number)) c.count_of-count.result c.self.invariant.ascend c.count_of-count.ensures in
     let count = c.count_of-count.result in
     let some = c.if-count-eq0.false in
-    let light : cond (not (count == 0)) 1 0 ≡ 1 = one_where_some count (omega arith) in
-    let heavy : cond (not (count + 1 == 0)) 1 0 ≡ 1 = one_where_some (count + 1) (omega arith) in
+    let light : cond {A = ℕ} (not (count == 0)) 1 0 ≡ 1 = one_where_some count (omega arith) in
+    let heavy : cond {A = ℕ} (not (count + 1 == 0)) 1 0 ≡ 1 = one_where_some (count + 1) (omega arith) in
     let differ = c.self.invariant.distinct in
     let long = c.self.invariant.total in
     subst (λ tallies. AreTallies tallies c.self.inside.distinct (c.self.inside.total + 1)) (sym c.recount.ensures.entries)
@@ -47,10 +47,10 @@ pub returns-then-count-eq0-clause-numbers : goal.returns-then-count-eq0-clause-n
 returns-then-count-eq0-clause-numbers c =
     let placed = counted c.self.inside.counts.entries (to_z w64 (of_z w64 c.args.number)) c.count_of-count.result c.self.invariant.ascend c.count_of-count.ensures in
     ap numbers_in c.recount.ensures.entries ∙ numbers_in-more placed ∙ ap (λ tallies. with_number (to_z w64 (of_z w64 c.args.number)) (numbers_in tallies)) c.self.view_is
-    ∙ ap (λ number. with_number number (numbers_in c.args.self.now)) (to_z-of_z w64 c.args.number c.ranges.number)
+    ∙ ap (λ number. with_number number (numbers_in c.args.self.now)) (to_z-of_z c.ranges.number)
 
 pub returns-else-count-eq0-clause-numbers : goal.returns-else-count-eq0-clause-numbers
 returns-else-count-eq0-clause-numbers c =
     let placed = counted c.self.inside.counts.entries (to_z w64 (of_z w64 c.args.number)) c.count_of-count.result c.self.invariant.ascend c.count_of-count.ensures in
     ap numbers_in c.recount.ensures.entries ∙ numbers_in-more placed ∙ ap (λ tallies. with_number (to_z w64 (of_z w64 c.args.number)) (numbers_in tallies)) c.self.view_is
-    ∙ ap (λ number. with_number number (numbers_in c.args.self.now)) (to_z-of_z w64 c.args.number c.ranges.number)
+    ∙ ap (λ number. with_number number (numbers_in c.args.self.now)) (to_z-of_z c.ranges.number)

@@ -18,7 +18,7 @@ invariant_of-self c =
 
 pub returns-in_ok-insert-clause-entered : goal.returns-in_ok-insert-clause-entered
 returns-in_ok-insert-clause-entered c =
-    subst (HasTally c.insert.new.self.entries) (to_z-of_z w64 c.args.number c.ranges.number) (ap is_some c.in_ok-insert.ensures.updates.1)
+    subst (HasTally c.insert.new.self.entries) (to_z-of_z c.ranges.number) (ap is_some c.in_ok-insert.ensures.updates.1)
 
 pub returns-in_ok-insert-clause-numbers : goal.returns-in_ok-insert-clause-numbers
 returns-in_ok-insert-clause-numbers c =
@@ -35,5 +35,5 @@ returns-in_ok-insert-clause-kept c =
 
 pub returns-else-not-contains_key-clause-entered : goal.returns-else-not-contains_key-clause-entered
 returns-else-not-contains_key-clause-entered c =
-    subst (HasTally c.args.self.now) (to_z-of_z w64 c.args.number c.ranges.number)
+    subst (HasTally c.args.self.now) (to_z-of_z c.ranges.number)
     (subst (λ tallies. HasTally tallies (to_z w64 (of_z w64 c.args.number))) c.self.view_is (sym c.contains_key.ensures ∙ search rules))
