@@ -1,9 +1,7 @@
 -- What holds of the value of any part of the stock holds of what the part itself keeps.
-use Rattle.std.proofs.Common.{◌≡◌, ℕ, Bool, true, List, subst}
+use Rattle.std.proofs.Common.{◌≡◌, ℕ, true, List, subst}
 use Rattle.xf_base.specs.declared.cell.Cell.{Cell}
-use Rattle.xf_base.specs.declared.column.Column.{Column}
-use Rattle.xf_model.specs.Group.{Reducer, count}
-use Rattle.xf_reduce.specs.Folds.{IsPart}
+use Rattle.xf_model.specs.Group.{count}
 use Rattle.xf_reduce.specs.Laws.{IsFoldBefore, IsFoldWith}
 use Rattle.xf_reduce.specs.Number.{fits_at}
 use Rattle.xf_reduce.specs.Simple.{simple_fits, simple_of}

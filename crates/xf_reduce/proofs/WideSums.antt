@@ -1,5 +1,5 @@
 -- In sums of 128 bits nothing is lost.
-use Rattle.std.proofs.Common.{◌≡◌, ℕ, ◌*◌, ◌^◌, ◌<◌, ◌≤◌, ℤ, nat_abs, ◌+ℤ◌, ◌-ℤ◌, ◌*ℤ◌, FitsSigned, SFits, to_z, of_z, w64, arith}
+use Rattle.std.proofs.Common.{◌≡◌, ◌^◌, ◌≤◌, ℤ, nat_abs, ◌+ℤ◌, ◌-ℤ◌, ◌*ℤ◌, FitsSigned, SFits, to_z, of_z, w64, arith}
 use mir.Syntax.{w128}
 use Rattle.std.proofs.lemmas.Int.{ints, fits_signed_from_abs, to_z-of_z}
 use Rattle.xf_base.specs.declared.fixed.TheConstants.{GREATEST_NUMBER}
@@ -35,8 +35,5 @@ taken sum number read is small other =
     rw (is, wide sum (grind (arith, ints)), wide number (omega arith)) (wide (sum -ℤ number) (omega arith))
 
 -- a square
-pub squared-fits : (number read : ℤ) → read ≡ number → nat_abs number ≤ GREATEST_NUMBER → nat_abs (number *ℤ number) ≤ GREATEST_NUMBER * GREATEST_NUMBER → FitsSigned w128 (to_z w128 (of_z w128 read) *ℤ to_z w128 (of_z w128 read))
-squared-fits number read is small square = rw (is, wide number (omega arith)) (fits_wide (number *ℤ number) (omega arith))
-
 pub squared : (number read : ℤ) → read ≡ number → nat_abs number ≤ GREATEST_NUMBER → to_z w128 (of_z w128 read) *ℤ to_z w128 (of_z w128 read) ≡ number *ℤ number
 squared number read is small = rw (is, wide number (omega arith))

@@ -3,7 +3,7 @@ use Rattle.std.proofs.Common.{◌*ℤ◌, to_z, of_z, arith}
 use mir.Syntax.{w128}
 use Rattle.xf_reduce.specs.Number.{number_at}
 use Rattle.xf_reduce.proofs.StockConditions.{squares-before, totals-before, totals-before_squares}
-use Rattle.xf_reduce.proofs.WideSums.{added-fits, added, read_number, squared, squared-fits}
+use Rattle.xf_reduce.proofs.WideSums.{added-fits, added, read_number, squared}
 use Rattle.xf_reduce.proofs.sum_squares.SumSquaresPart.add.Goals as goal
 
 pub overflow_add-value : goal.overflow_add-value

@@ -3,7 +3,7 @@ use Rattle.std.proofs.Common.{◌*ℤ◌, to_z, of_z, arith}
 use mir.Syntax.{w128}
 use Rattle.xf_reduce.specs.Number.{number_at}
 use Rattle.xf_reduce.proofs.StockConditions.{squares-with, totals-with, totals-with_squares}
-use Rattle.xf_reduce.proofs.WideSums.{taken-fits, taken, read_number, squared, squared-fits}
+use Rattle.xf_reduce.proofs.WideSums.{taken-fits, taken, read_number, squared}
 use Rattle.xf_reduce.proofs.sum_squares.SumSquaresPart.remove.Goals as goal
 
 pub overflow_sub-value : goal.overflow_sub-value
