@@ -20,7 +20,7 @@ add-requires-in-Two-Two-2-clause-folded g c =
 
 pub unreachable-requires : goal.unreachable-requires
 unreachable-requires g c = elim c.in_default.branch [
-  in_default-via-in-One+in_default w ↦
+  | in_default-via-in-One+in_default w ↦
       before_one-not_two w.in_default.field-0-0 (simple_meaning w.in_default.field-0-1) (simple_meaning w.in_default.field-1-1) c.args.row.now
       (before_known c.args.self.now (stock.One w.in_default.field-0-0) c.args.value.now (value.Two w.in_default.field-0-1 w.in_default.field-1-1) c.args.row.now w.in_default.is-0 w.in_default.is-1 c.requires.folded)
   | in_default-via-in-Two+in_default w ↦
