@@ -1,0 +1,4 @@
+pub mod HalvedDigits
+pub mod AscendingEntries
+pub mod PlacedKeys
+pub mod KeptEntries
