@@ -1,1 +1,2 @@
 pub mod CutAt
+pub mod Renumbered

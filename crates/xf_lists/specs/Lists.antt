@@ -1,4 +1,4 @@
--- Lists of keys that lie one after the other in one vector, with the place at which each ends.
+-- Lists that lie one after the other in one vector, with the place at which each ends.
 use Rattle.std.specs.Prelude.{◌≡◌, ℕ, zero, suc, ◌-◌, ◌≤◌, List, [], ◌∷◌, drop, slice_index, take}
 
 -- the lists that begin at a place and end at these places

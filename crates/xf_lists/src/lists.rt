@@ -8,6 +8,9 @@ use std::alloc::Global;
 use std::marker::Model;
 use xf_base::{Gone, OutOfMemory};
 
+/// So many items no memory holds: a list that would bring as many is refused as one without memory for it.
+const TOO_MANY_ITEMS: usize = 1 << 57;
+
 /// Lists in order, seen by contracts as the list of them.
 #[derive(Debug, Drop)]
 pub struct Lists<T> {
@@ -16,14 +19,14 @@ pub struct Lists<T> {
 }
 
 impl<T> Model for Lists<T> {
-    ghost use Rattle.std.specs.Prelude.{List, length};
+    ghost use Rattle.std.specs.Prelude.{◌<◌, ◌^◌, List, length};
     ghost use Rattle.xf_lists.specs.Lists.{AreEnds, cut_at};
 
     ghost Value = { List (List T) };
 
     ghost view = { λ lists. cut_at 0 lists.ends.items lists.items.items };
 
-    ghost invariant = { λ lists. AreEnds 0 lists.ends.items (length lists.items.items) };
+    ghost invariant = { λ lists. AreEnds 0 lists.ends.items (length lists.items.items) × (length lists.items.items < 2 ^ 57) };
 }
 
 impl<T: Drop> Lists<T> {
@@ -44,7 +47,12 @@ impl<T: Drop> Lists<T> {
         ensures taken { OnOk result (list.new.items ≡ []) }
         ensures err { OnErr result (self.new ≡ self.old) }
     {
-        self.ends.push(self.items.len() + list.len())?;
+        let held = self.items.len();
+        let more = list.len();
+        if more >= TOO_MANY_ITEMS - held {
+            return Err(OutOfMemory);
+        }
+        self.ends.push(held + more)?;
         if self.items.append(list).is_err() {
             self.ends.pop();
             return Err(OutOfMemory);
@@ -106,9 +114,17 @@ impl Lists<usize> {
         requires { AllByRecursion (AllByRecursion (λ item. item < length numbers.now)) self.old }
         ensures { self.new ≡ map (map (slice_index numbers.now)) self.old }
     {
-        for item in self.items.as_mut_slice() {
-            *item = numbers[*item];
-        }
+        renumber_items(self.items.as_mut_slice(), numbers);
+    }
+}
+
+/// Puts for each number the one that stands at its place in `numbers`.
+fn renumber_items(items: &mut [usize], numbers: &[usize])
+    requires { AllByRecursion (λ item. item < length numbers.now) items.old }
+    ensures { items.new ≡ map (slice_index numbers.now) items.old }
+{
+    for item in items.iter_mut() {
+        *item = numbers[*item];
     }
 }
 

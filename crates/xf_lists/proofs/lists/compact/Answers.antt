@@ -1,13 +1,14 @@
+-- A list that is removed is passed over, and one that stays comes behind those that stay.
 use Rattle.std.proofs.Common.{◌≡◌, ◌<◌, true, false, length, get_or, arith}
 use Rattle.xf_lists.proofs.CutAt.{IsCompact-end, IsCompact-gone, IsCompact-stays}
 use Rattle.xf_lists.proofs.lists.compact.Goals as goal
 use Rattle.xf_lists.proofs.lists.compact.Goals.{then-not-is_gone, else-not-is_gone}
 
 pub move_down-filled-requires-clause-within : goal.move_down-filled-requires-clause-within
-move_down-filled-requires-clause-within c = (IsCompact-end _ _ _ _ _ _ _ _ (omega arith) c.loop-place.invariant).1
+move_down-filled-requires-clause-within g c = (IsCompact-end _ _ _ _ _ _ _ _ (omega arith) c.loop-place.invariant).1
 
 pub loop-place-preserved : goal.loop-place-preserved
-loop-place-preserved c =
+loop-place-preserved g c =
     let marks = c.args.gone.now in
     let within : c.loop-place.place < length c.loop-place.ends = omega arith in
     elim c.if-not-is_gone.branch [
