@@ -1,0 +1,5 @@
+pub mod Conditions
+pub mod PairConditions
+pub mod StockConditions
+pub mod SimpleConditions
+pub mod StockReducerConditions

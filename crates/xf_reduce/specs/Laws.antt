@@ -14,13 +14,13 @@ use Rattle.xf_model.specs.Undo.{StepsSwap, UndoTakesBack}
 pub record Suits (fits : List Column → Bool) (row : List Cell) : Type 0 where
   pub columns : List Column
   pub fit : fits columns ≡ true
-  pub row : IsRowOf columns row
+  pub of_columns : IsRowOf columns row
 
 -- a row of a schema that fits, and a value that means the fold of other rows of it, fewer than there may be
 pub record IsFoldBefore {Meaning : Type 0} (fits : List Column → Bool) (reducer : Reducer (List Cell) Meaning) (value : Meaning) (row : List Cell) : Type 0 where
   pub columns : List Column
   pub fit : fits columns ≡ true
-  pub row : IsRowOf columns row
+  pub of_columns : IsRowOf columns row
   pub rows : List (List Cell)
   pub of_schema : AllByRecursion (IsRowOf columns) rows
   pub few : length rows < ROWS
@@ -30,7 +30,7 @@ pub record IsFoldBefore {Meaning : Type 0} (fits : List Column → Bool) (reduce
 pub record IsFoldWith {Meaning : Type 0} (fits : List Column → Bool) (reducer : Reducer (List Cell) Meaning) (value : Meaning) (row : List Cell) : Type 0 where
   pub columns : List Column
   pub fit : fits columns ≡ true
-  pub row : IsRowOf columns row
+  pub of_columns : IsRowOf columns row
   pub rows : List (List Cell)
   pub of_schema : AllByRecursion (IsRowOf columns) rows
   pub few : length rows < ROWS

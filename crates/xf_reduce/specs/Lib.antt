@@ -1,6 +1,8 @@
 pub mod Laws
 pub mod Number
 pub mod Stock
+pub mod Folds
+pub mod CellNumbers
 pub mod StockLaws
 pub mod NumbersLaws
 pub mod Tallies

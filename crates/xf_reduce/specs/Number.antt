@@ -18,16 +18,17 @@ abbrev pub number_at : ℕ → List Cell → ℤ
 number_at place row = number_in (slice_get row place)
 
 -- whether the cells of a column of this kind are whole numbers or decimals
-abbrev pub is_of_numbers : Option Column → Bool
-is_of_numbers None = false
-is_of_numbers (Some column) = is_number_kind column.kind
-
 abbrev pub is_number_kind : ColumnKind → Bool
 is_number_kind kind.Int = true
 is_number_kind (kind.Fixed decimals) = true
 is_number_kind kind.Date = false
 is_number_kind kind.Text = false
 is_number_kind (kind.Tags separator) = false
+
+-- whether a column is there and is one of those
+abbrev pub is_of_numbers : Option Column → Bool
+is_of_numbers None = false
+is_of_numbers (Some column) = is_number_kind column.kind
 
 -- whether the column at a place is one of numbers
 abbrev pub fits_at : ℕ → List Column → Bool

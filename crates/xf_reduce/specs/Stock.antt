@@ -1,6 +1,6 @@
 -- What the parts of the stock mean: the fold of rows, how a row is taken back, and the fields.
 use Rattle.std.specs.Prelude.{ℕ, ◌+◌, ◌-◌, ◌/◌, ◌==◌, ℤ, pos, ◌+ℤ◌, ◌-ℤ◌, ◌*ℤ◌, List, [], ◌∷◌, length, if◌then◌else◌, slice_index_or}
-use Rattle.core.specs.Int.{int_div_euclid}
+use Rattle.std.specs.Int.{int_div_euclid}
 use Rattle.std.specs.Ordering.{int_cmp, is_eq, is_lt}
 use Rattle.xf_base.specs.declared.cell.Cell.{Cell}
 use Rattle.xf_model.specs.Group.{Reducer, distinct_keys}

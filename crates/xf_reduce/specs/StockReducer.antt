@@ -66,17 +66,18 @@ IsStockReady (stock.Two first second) (value.Two one other) row = IsSimpleReady 
 
 -- ---- decimals
 
--- the decimals of the column at a place
-abbrev pub column_decimals : Option Column → ℕ
-column_decimals None = 0
-column_decimals (Some column) = kind_decimals column.kind
-
+-- the decimals of a column of this kind
 abbrev pub kind_decimals : ColumnKind → ℕ
 kind_decimals kind.Int = 0
 kind_decimals (kind.Fixed decimals) = decimals
 kind_decimals kind.Date = 0
 kind_decimals kind.Text = 0
 kind_decimals (kind.Tags separator) = 0
+
+-- the decimals of the column at a place
+abbrev pub column_decimals : Option Column → ℕ
+column_decimals None = 0
+column_decimals (Some column) = kind_decimals column.kind
 
 -- the decimals of a field: counts have none, squares twice those of the column
 abbrev pub simple_decimals : Simple → List Column → ℕ → ℕ

@@ -36,11 +36,11 @@ impl<A: Part, B: Part> Reducer for Both<A, B> {
 
     ghost few_fields = { λ both. both_few (A.few_fields both.0) (B.few_fields both.1) };
 
-    ghost swaps = { λ both. both_swap (A.swaps both.0) (B.swaps both.1) };
+    ghost swaps = { λ both. both_swap (A.folding both.0) (B.folding both.1) (A.swaps both.0) (B.swaps both.1) };
 
-    ghost takes_back = { λ both. both_take_back (A.takes_back both.0) (B.takes_back both.1) };
+    ghost takes_back = { λ both. both_take_back (A.folding both.0) (B.folding both.1) (A.undo both.0) (B.undo both.1) (A.takes_back both.0) (B.takes_back both.1) };
 
-    ghost ranks_within = { λ both. both_within (A.ranks_within both.0) (B.ranks_within both.1) };
+    ghost ranks_within = { λ both. both_within (A.folding both.0) (B.folding both.1) (A.rank_of both.0) (B.rank_of both.1) (A.ranks_within both.0) (B.ranks_within both.1) };
 
     fn copy(&self, alloc: Global) -> Result<Both<A, B>, OutOfMemory> {
         let first = self.0.copy(alloc)?;

@@ -11,7 +11,7 @@ impl Part for Count {
     ghost use Rattle.std.specs.Prelude.{pos, true, ⊤};
     ghost use Rattle.xf_model.specs.Group.{count};
     ghost use Rattle.xf_reduce.specs.Stock.{count_less};
-    ghost use Rattle.xf_reduce.specs.StockLaws.{count_swaps, count_takes_back, count_within};
+    ghost use Rattle.xf_reduce.specs.StockLaws.{one_is_few, count_swaps, count_takes_back, count_within};
 
     type Value = u64;
 
@@ -31,7 +31,7 @@ impl Part for Count {
 
     ghost IsReady = { λ _ value row. ⊤ };
 
-    ghost few_fields = { λ _. ? };
+    ghost few_fields = { λ _. one_is_few };
 
     ghost swaps = { λ _. count_swaps };
 

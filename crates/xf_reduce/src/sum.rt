@@ -12,7 +12,7 @@ impl Part for Sum {
     ghost use Rattle.std.specs.Prelude.{⊤};
     ghost use Rattle.xf_reduce.specs.Number.{fits_at};
     ghost use Rattle.xf_reduce.specs.Stock.{sum_less, sum_of};
-    ghost use Rattle.xf_reduce.specs.StockLaws.{sum_swaps, sum_takes_back, sum_within};
+    ghost use Rattle.xf_reduce.specs.StockLaws.{one_is_few, sum_swaps, sum_takes_back, sum_within};
 
     type Value = i128;
 
@@ -32,7 +32,7 @@ impl Part for Sum {
 
     ghost IsReady = { λ _ value row. ⊤ };
 
-    ghost few_fields = { λ _. ? };
+    ghost few_fields = { λ _. one_is_few };
 
     ghost swaps = { λ sum. sum_swaps sum.0 };
 

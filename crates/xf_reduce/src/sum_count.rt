@@ -36,7 +36,7 @@ impl Part for SumCount {
     ghost use Rattle.std.specs.Prelude.{⊤};
     ghost use Rattle.xf_reduce.specs.Number.{fits_at};
     ghost use Rattle.xf_reduce.specs.Stock.{totals_field, totals_less, totals_of};
-    ghost use Rattle.xf_reduce.specs.StockLaws.{totals_swaps, totals_take_back, totals_within};
+    ghost use Rattle.xf_reduce.specs.StockLaws.{three_are_few, totals_swaps, totals_take_back, totals_within};
 
     type Value = Totals;
 
@@ -56,7 +56,7 @@ impl Part for SumCount {
 
     ghost IsReady = { λ _ value row. ⊤ };
 
-    ghost few_fields = { λ _. ? };
+    ghost few_fields = { λ _. three_are_few };
 
     ghost swaps = { λ part. totals_swaps part.0 };
 

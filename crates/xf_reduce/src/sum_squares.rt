@@ -21,7 +21,7 @@ impl Part for SumSquares {
     ghost use Rattle.std.specs.Prelude.{⊤};
     ghost use Rattle.xf_reduce.specs.Number.{fits_at};
     ghost use Rattle.xf_reduce.specs.Stock.{squares_field, squares_less, squares_of};
-    ghost use Rattle.xf_reduce.specs.StockLaws.{squares_swap, squares_take_back, squares_within};
+    ghost use Rattle.xf_reduce.specs.StockLaws.{three_are_few, squares_swap, squares_take_back, squares_within};
 
     type Value = SquareTotals;
 
@@ -41,7 +41,7 @@ impl Part for SumSquares {
 
     ghost IsReady = { λ _ value row. ⊤ };
 
-    ghost few_fields = { λ _. ? };
+    ghost few_fields = { λ _. three_are_few };
 
     ghost swaps = { λ part. squares_swap part.0 };
 
