@@ -2,6 +2,7 @@
 use Rattle.std.proofs.Common.{◌≡◌, ℕ, zero, suc, ◌+◌, ◌-◌, ◌<◌, ◌≤◌, Bool, true, false, ◌||◌, cond, not, List, [], ◌∷◌, ◌++◌, map, length, get_or, take, drop, Option, Some, None, slice_get, Result, Ok, Err, is_ok, refl, sym, ap, ◌∙◌, arith, ⊎_elim}
 use Rattle.std.proofs.lemmas.Bool.{cases_lt, true≢false}
 use Rattle.std.proofs.lemmas.Cmp.{on_total}
+use Rattle.std.proofs.Common.{take-add}
 use Rattle.std.proofs.lemmas.List.{drop_more, length-drop, map_push, take_more}
 use Rattle.std.proofs.lemmas.List.Filters.{dedup_is}
 use Rattle.std.proofs.lemmas.List.Folds.{list_any_at, list_any_none}
@@ -125,7 +126,7 @@ all-append P [] ys some more = more
 all-append P (x ∷ xs) ys some more = (some.0, all-append P xs ys some.1 more)
 
 take_on : {X : Type 0} (m n : ℕ) (xs : List X) → take (m + n) xs ≡ take m xs ++ take n (drop m xs)
-take_on m n xs = grind arith
+take_on m n xs = take-add m n xs
 
 -- as many of strictly ascending keys are below one as stand at the front and are below it
 below_at_front : {Key : Type 0} {cmp : Key → Key → Ordering} → IsTotalOrder cmp → (key : Key) (keys : List Key) → IsStrictlySortedBy cmp keys → count_below cmp key keys ≡ prefix_len (λ other. is_lt (cmp other key)) keys
