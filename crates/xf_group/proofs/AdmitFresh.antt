@@ -3,7 +3,7 @@ use Rattle.std.proofs.Common.{◌≡◌, ℕ, zero, suc, ◌+◌, ◌-◌, ◌<�
 use Rattle.std.proofs.lemmas.Bool.{cases_lt, true≢false}
 use Rattle.std.proofs.lemmas.Cmp.{on_total}
 use Rattle.std.proofs.Common.{take-add}
-use Rattle.std.proofs.lemmas.List.{drop_more, length-drop, map_push, take_more}
+use Rattle.std.proofs.lemmas.List.{drop-map, drop_more, length-drop, length-map, length-take, map_push, take_more}
 use Rattle.std.proofs.lemmas.List.Filters.{dedup_is}
 use Rattle.std.proofs.lemmas.List.Folds.{list_any_at, list_any_none}
 use Rattle.std.proofs.lemmas.List.Kept.{IsStrictlySortedBy-dedup}
@@ -18,6 +18,7 @@ use Rattle.std.specs.Ordering.{eq_by_cmp, is_eq, is_lt, on, ordering_reverse}
 use Rattle.std.specs.declared.cmp.Ordering.{Ordering}
 use Rattle.std.specs.declared.cmp.Ordering.TheVariants.{Less, Equal, Greater}
 use Rattle.xf_base.specs.Key.{key_cmp}
+use Rattle.xf_base.specs.KeyOrder.{key_cmp_total}
 use Rattle.xf_base.specs.declared.key.Key.{Key}
 use Rattle.xf_group.specs.Fresh.{count_below, new_position, new_positions}
 use Rattle.xf_model.specs.Group.{distinct_keys}
@@ -201,3 +202,25 @@ pub position_more : (keys fresh : List Key) (key : Key) → new_positions (keys 
 position_more keys fresh key =
     let same : 0 + length keys ≡ length keys = omega arith in
     ap (map (new_position fresh)) (enumerate_push 0 keys key) ∙ map_push (new_position fresh) (enumerate_from 0 keys) (0 + length keys, key) ∙ ap (λ n. new_positions keys fresh ++ (n + count_below key_cmp key fresh) ∷ []) same
+
+prefix_len-map : {X Y : Type 0} (p : Y → Bool) (f : X → Y) (xs : List X) → prefix_len p (map f xs) ≡ prefix_len (λ x. p (f x)) xs
+prefix_len-map p f [] = refl
+prefix_len-map p f (x ∷ xs) = ap (λ n. cond (p (f x)) (1 + n) 0) (prefix_len-map p f xs)
+
+-- a step of the loop over the old keys
+pub next_position : {X : Type 0} (key_of : X → Key) (keys : List Key) (xs : List X) (order pushed : List ℕ) (position before more : ℕ) (key : Key) (rest : List X) → IsStrictlySortedBy key_cmp keys → IsStrictlySortedBy key_cmp (map key_of xs) → rest ≡ drop before xs → position < length keys → key ≡ get_or keys position key → before ≤ length xs
+    → order ≡ new_positions (take position keys) (map key_of xs) → ArePassed key_cmp (take before (map key_of xs)) (drop position keys) → more ≤ length rest → more ≡ prefix_len (λ x. is_lt (key_cmp (key_of x) key)) rest → pushed ≡ order ++ (position + (before + more)) ∷ []
+    → (pushed ≡ new_positions (take (position + 1) keys) (map key_of xs)) × (before + more ≤ length xs) × ArePassed key_cmp (take (before + more) (map key_of xs)) (drop (position + 1) keys)
+next_position {X} key_of keys xs order pushed position before more key rest sorted sorted_fresh left within is fits so_far passed few counted last =
+    let fresh = map key_of xs in
+    let next : drop position keys ≡ key ∷ drop (position + 1) keys = drop_more keys position key within ∙ ap (λ k. k ∷ drop (position + 1) keys) (sym is) in
+    let taken : take (position + 1) keys ≡ take position keys ++ key ∷ [] = take_more keys position key within ∙ ap (λ k. take position keys ++ k ∷ []) (sym is) in
+    let passes : Key → Bool = λ other. is_lt (key_cmp other key) in
+    let counted_keys : more ≡ prefix_len passes (drop before fresh) = counted ∙ ap (prefix_len (λ x. is_lt (key_cmp (key_of x) key))) left ∙ sym (prefix_len-map passes key_of (drop before xs)) ∙ ap (prefix_len passes) (sym (drop-map key_of before xs)) in
+    let step = passed_more key_cmp_total keys fresh position before more key sorted sorted_fresh next (omega (arith, fits, length-map xs key_of)) passed counted_keys in
+    let place : length (take position keys) ≡ position = omega (arith, length-take position keys, within) in
+    let moved : position + (before + more) ≡ length (take position keys) + count_below key_cmp key fresh = omega (arith, place, step.0) in (
+      last ∙ ap (λ ys. ys ++ (position + (before + more)) ∷ []) so_far ∙ ap (λ n. new_positions (take position keys) fresh ++ n ∷ []) moved ∙ sym (position_more (take position keys) fresh key) ∙ ap (λ ks. new_positions ks fresh) (sym taken),
+      omega (arith, few, fits, ap length left, length-drop before xs),
+      step.1,
+    )
