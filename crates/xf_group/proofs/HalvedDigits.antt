@@ -54,3 +54,15 @@ pub digits-halved : (half whole : ℕ) → half + half ≤ whole → 1 ≤ whole
 digits-halved half whole le some few =
     let fewer : half < 2 ^ 63 = omega arith in
     halved 63 half whole le some fewer
+
+-- the same, kept shut: what it computes to is long
+unfoldable pub digit_count : ℕ → ℕ
+digit_count number = digits number
+
+pub digit_count-is : (number : ℕ) → digit_count number ≡ digits number
+unfolding digit_count
+digit_count-is number = refl
+
+pub digit_count-halved : (half whole : ℕ) → half + half ≤ whole → 1 ≤ whole → whole < 2 ^ 64 → digit_count half + 1 ≤ digit_count whole
+unfolding digit_count
+digit_count-halved half whole le some few = digits-halved half whole le some few

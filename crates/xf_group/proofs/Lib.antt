@@ -6,3 +6,4 @@ pub mod AdmitOrder
 pub mod AdmitEntries
 pub mod AdmitPlaces
 pub mod AdmitFresh
+pub mod UnusedDropped
