@@ -1,22 +1,28 @@
 -- Entries whose keys differ: what the value of a key is once others have entered, or once one was made ready.
-use Rattle.std.proofs.Common.{◌≡◌, ℕ, zero, suc, ◌+◌, ◌<◌, ◌≤◌, Bool, true, false, cond, List, [], ◌∷◌, ◌++◌, map, length, get_or, set, Option, Some, None, option_map, unwrap_or, refl, sym, ap, ◌∙◌, arith, ⊎_elim}
+use Rattle.std.proofs.Common.{◌≡◌, ℕ, zero, suc, ◌+◌, ◌<◌, ◌≤◌, Bool, true, false, cond, ltb, ltb-false, List, [], ◌∷◌, ◌++◌, map, length, get_or, set, slice_get, Option, Some, None, option_map, unwrap_or, refl, sym, ap, ◌∙◌, arith, ⊎_elim}
+use Rattle.std.proofs.lemmas.List.{get_or_default}
+use Rattle.std.proofs.lemmas.List.Quantifiers.{position-Some}
 use Rattle.std.proofs.lemmas.Bool.{true≢false}
 use Rattle.std.proofs.lemmas.List.Elements.{All-contains, All-from_recursion, Contains-append_cases, Contains-append_left}
-use Rattle.std.proofs.lemmas.List.Folds.{find_at, fold-map}
+use Rattle.std.proofs.lemmas.List.Folds.{find-set, find_at, fold-map, list_any_none}
 use Rattle.std.proofs.lemmas.List.Sorted.{Contains-permutation, IsPermutation-sym}
-use Rattle.std.proofs.lemmas.List.Sums.{get_or-le-sum_by, passes_at_first, sum_by-cons}
-use Rattle.std.proofs.lemmas.Option.{get_or_from_slice_get, none-some, same_Some, slice_get_within}
-use Rattle.std.specs.List.{AllByRecursion, Contains, count_by, find, position_or_len}
+use Rattle.std.proofs.lemmas.List.Sums.{fails_before_first, get_or-le-sum_by, passes_at_first, sum_by-cons}
+use Rattle.std.proofs.lemmas.Option.{cond_some, get_or_from_slice_get, none-some, same_Some, slice_get-get_or, slice_get-map, slice_get_within}
+use Rattle.std.specs.List.{AllByRecursion, Contains, count_by, find, position, position_or_len}
 use Rattle.std.specs.List.Sorted.{IsPermutation}
 use Rattle.std.specs.Ordering.{is_eq}
 use Rattle.xf_base.specs.Key.{key_cmp}
 use Rattle.xf_base.specs.declared.cell.Cell.{Cell}
 use Rattle.xf_base.specs.declared.key.Key.{Key}
 use Rattle.xf_group.specs.Admitted.{IsReadyAt, SameMeanings, StayReady}
+use Rattle.xf_group.specs.Fresh.{AreKept}
 use Rattle.xf_group.specs.Group.{is_entry_of, meaning_at, meanings, value_at}
 use Rattle.xf_group.specs.Held.{keys_of}
 use Rattle.xf_group.specs.declared.entry.Entry.{Entry}
+use Rattle.xf_group.proofs.AdmitFresh.{equal_from_test, list_any-map}
 use Rattle.xf_group.proofs.AdmitOrder.{AtMostOnce, by_test, ties_with}
+use Rattle.xf_base.proofs.EqualKeys.{key_cmp-equal}
+use Rattle.xf_model.specs.Laws.{is_among}
 
 -- an option is nothing or something, with the equation
 pub by_option : {X P : Type 0} (o : Option X) → (o ≡ None → P) → ((x : X) → o ≡ Some x → P) → P
@@ -153,6 +159,59 @@ stay_ready_set {Value} IsReady (first ∷ entries) (suc place) entry within same
     let kept = stay_ready_set IsReady entries place entry (omega (arith, within)) same stays key row (ready.0, later, ready.2) in
     (kept.0, ap (λ b. value_of (cond b (Some first) (find (is_entry_of key) rest))) fails ∙ kept.1, kept.2))
 
--- what one step keeps ready and the next does too, both do
-pub stay_ready_on : {Value : Type 0} (IsReady : Value → List Cell → Type 0) (old new later : List (Entry Value)) → StayReady IsReady old new → StayReady IsReady new later → StayReady IsReady old later
-stay_ready_on IsReady old new later first next key row ready = next key row (first key row ready)
+-- ---- the entry of a key, made ready
+
+-- where no entry is of a key, it is not among the keys
+pub none_at_position : {Value : Type 0} (entries : List (Entry Value)) (key : Key) → position (is_entry_of key) entries ≡ None → is_among key_cmp (keys_of entries) key ≡ false
+none_at_position {Value} entries key none =
+    let first = position_or_len (is_entry_of key) entries in
+    by_test (ltb first (length entries))
+    (λ before. absurd (none-some first (sym none ∙ ap (λ b. cond b (Some first) None) before)))
+    (λ past.
+    list_any-map (λ own. is_eq (key_cmp key own)) (λ (entry : Entry Value). entry.key) entries
+    ∙ list_any_none (is_entry_of key) entries (λ k d within. fails_before_first (is_entry_of key) entries k d (omega (arith, within, ltb-false first (length entries) past))))
+
+-- the key of the entry at a key's position is that key
+pub key_at_position : {Value : Type 0} (entries : List (Entry Value)) (key : Key) (place : ℕ) → position (is_entry_of key) entries ≡ Some place → (place < length entries) × (slice_get (keys_of entries) place ≡ Some key)
+key_at_position [] key place found = absurd (none-some place found)
+key_at_position {Value} (first ∷ entries) key place found =
+    let at = position-Some (is_entry_of key) (first ∷ entries) place first found in
+    let same : key ≡ (get_or (first ∷ entries) place first).key = key_cmp-equal key (get_or (first ∷ entries) place first).key (equal_from_test (key_cmp key (get_or (first ∷ entries) place first).key) at.1) in (
+      at.0,
+      slice_get-map (λ (entry : Entry Value). entry.key) (first ∷ entries) place
+      ∙ ap (option_map (λ (entry : Entry Value). entry.key)) (slice_get-get_or (first ∷ entries) place first at.0)
+      ∙ ap Some (sym same),
+    )
+
+-- the entry at a place with another value
+abbrev pub with_value : {Value : Type 0} → List (Entry Value) → ℕ → Entry Value → Value → Entry Value
+with_value entries place d value = record { key = (get_or entries place d).key; value = value }
+
+-- a value of the same meaning, ready for as many rows, keeps what entries are kept for
+pub prepared_kept : {Value Meaning : Type 0} (meaning_of : Value → Meaning) (IsReady : Value → List Cell → Type 0) (entries : List (Entry Value)) (place : ℕ) (d : Entry Value) (value : Value) → place < length entries → meaning_of value ≡ meaning_of (get_or entries place d).value → ((row : List Cell) → IsReady (get_or entries place d).value row → IsReady value row) → AreKept meaning_of IsReady entries (set entries place (with_value entries place d value))
+prepared_kept {Value} {Meaning} meaning_of IsReady entries place d value within means stays =
+    let entry = with_value entries place d value in
+    let same : get_or entries place d ≡ get_or entries place entry = get_or_default entries place d entry within in
+    record {
+      same_keys = map-set_same (λ (one : Entry Value). one.key) entries place entry within (ap (λ one. one.key) same);
+      same_meanings = map-set_same (λ (one : Entry Value). (one.key, meaning_of one.value)) entries place entry within (ap (λ meaning. ((get_or entries place d).key, meaning)) means ∙ ap (λ one. (one.key, meaning_of one.value)) same);
+      stay_ready = stay_ready_set IsReady entries place entry within (ap (λ one. one.key) same) (λ row ready. stays row (rw same ready));
+    }
+
+-- and the value at a key's position that is ready for a row is the key's
+pub prepared_ready : {Value : Type 0} (IsReady : Value → List Cell → Type 0) (entries : List (Entry Value)) (key : Key) (place : ℕ) (d : Entry Value) (value : Value) (row : List Cell) → position (is_entry_of key) entries ≡ Some place → IsReady value row → IsReadyAt IsReady (set entries place (with_value entries place d value)) key row
+prepared_ready {Value} IsReady entries key place d value row found ready =
+    let at = position-Some (is_entry_of key) entries place d found in
+    let first = cond_some (ltb (position_or_len (is_entry_of key) entries) (length entries)) (position_or_len (is_entry_of key) entries) place found in
+    (value, ap (option_map (λ (one : Entry Value). one.value)) (find-set (is_entry_of key) entries place (with_value entries place d value) (sym first.1) at.0 at.1), ready)
+
+-- what is kept twice is kept
+pub kept_on : {Value Meaning : Type 0} (meaning_of : Value → Meaning) (IsReady : Value → List Cell → Type 0) (old new later : List (Entry Value)) → AreKept meaning_of IsReady old new → AreKept meaning_of IsReady new later → AreKept meaning_of IsReady old later
+kept_on meaning_of IsReady old new later first next = record {
+  same_keys = next.same_keys ∙ first.same_keys;
+  same_meanings = next.same_meanings ∙ first.same_meanings;
+  stay_ready = λ key row ready. next.stay_ready key row (first.stay_ready key row ready);
+}
+
+pub kept_itself : {Value Meaning : Type 0} (meaning_of : Value → Meaning) (IsReady : Value → List Cell → Type 0) (entries : List (Entry Value)) → AreKept meaning_of IsReady entries entries
+kept_itself meaning_of IsReady entries = record { same_keys = refl; same_meanings = refl; stay_ready = λ key row ready. ready }

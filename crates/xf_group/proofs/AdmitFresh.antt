@@ -28,7 +28,7 @@ use Rattle.xf_group.proofs.AdmitOrder.{all_at, below-cons, by_test, none_below}
 
 -- ---- a search by halves
 
-list_any-map : {X Y : Type 0} (p : Y → Bool) (f : X → Y) (xs : List X) → list_any p (map f xs) ≡ list_any (λ x. p (f x)) xs
+pub list_any-map : {X Y : Type 0} (p : Y → Bool) (f : X → Y) (xs : List X) → list_any p (map f xs) ≡ list_any (λ x. p (f x)) xs
 list_any-map p f [] = refl
 list_any-map p f (x ∷ xs) = ap (λ b. p (f x) || b) (list_any-map p f xs)
 
@@ -97,7 +97,7 @@ strict-map {X} {Key} cmp key_of (x ∷ xs) sorted = (mapped xs sorted.0, strict-
     mapped [] all = tt
     mapped (y ∷ ys) all = (all.0, mapped ys all.1)
 
-equal_from_test : (r : Ordering) → is_eq r ≡ true → r ≡ Equal
+pub equal_from_test : (r : Ordering) → is_eq r ≡ true → r ≡ Equal
 equal_from_test Less test = absurd (true≢false (sym test))
 equal_from_test Equal test = refl
 equal_from_test Greater test = absurd (true≢false (sym test))

@@ -7,37 +7,18 @@ use Rattle.std.specs.List.{AllByRecursion}
 use Rattle.std.specs.Option.{option_to_list}
 use Rattle.xf_base.specs.declared.key.Key.{Key}
 use Rattle.xf_group.specs.Held.{AreWithin, key_lists, keys_at_positions}
+use Rattle.xf_group.proofs.PlacedKeys.{all_then}
 
 -- each key stands at its new position among all keys
 abbrev pub Stand : List Key → List Key → (ℕ → ℕ) → Type 0
 Stand keys all move = (place : ℕ) → place < length keys → slice_get all (move place) ≡ slice_get keys place
 
--- then the new positions have the same keys
-pub moved_positions : (keys all : List Key) (move : ℕ → ℕ) → Stand keys all move → (positions : List ℕ) → AllByRecursion (λ position. position < length keys) positions → keys_at_positions all (map move positions) ≡ keys_at_positions keys positions
-moved_positions keys all move stand [] within = refl
-moved_positions keys all move stand (position ∷ positions) within =
-    ap₂ (λ one others. option_to_list one ++ others) (stand position within.0) (moved_positions keys all move stand positions within.1)
-
-pub moved_places : (keys all : List Key) (move : ℕ → ℕ) → Stand keys all move → (places : List (List ℕ)) → AreWithin (length keys) places → key_lists all (map (map move) places) ≡ key_lists keys places
-moved_places keys all move stand [] within = refl
-moved_places keys all move stand (place ∷ places) within =
-    ap₂ (λ one others. one ∷ others) (moved_positions keys all move stand place within.0) (moved_places keys all move stand places within.1)
-
--- and are among all keys
-moved_within : (keys all : List Key) (move : ℕ → ℕ) → Stand keys all move → (position : ℕ) → position < length keys → move position < length all
-moved_within keys all move stand position within =
-    ⊎_elim
-    (λ some. slice_get_within all (move position) some.0 (stand position within ∙ some.2))
-    (λ past. absurd (omega (arith, past.0, within)))
-    (slice_get_cases keys position).1
-
-positions_within : (keys all : List Key) (move : ℕ → ℕ) → Stand keys all move → (positions : List ℕ) → AllByRecursion (λ position. position < length keys) positions → AllByRecursion (λ position. position < length all) (map move positions)
-positions_within keys all move stand [] within = tt
-positions_within keys all move stand (position ∷ positions) within = (moved_within keys all move stand position within.0, positions_within keys all move stand positions within.1)
-
-pub places_within : (keys all : List Key) (move : ℕ → ℕ) → Stand keys all move → (places : List (List ℕ)) → AreWithin (length keys) places → AreWithin (length all) (map (map move) places)
-places_within keys all move stand [] within = tt
-places_within keys all move stand (place ∷ places) within = (positions_within keys all move stand place within.0, places_within keys all move stand places within.1)
+-- so do those at positions
+pub places_stand : (keys all : List Key) (move : ℕ → ℕ) → Stand keys all move → (places : List (List ℕ)) → AreWithin (length keys) places → AllByRecursion (AllByRecursion (λ position. slice_get all (move position) ≡ slice_get keys position)) places
+places_stand keys all move stand places within =
+    all_then (AllByRecursion (λ position. position < length keys)) (AllByRecursion (λ position. slice_get all (move position) ≡ slice_get keys position))
+        (λ positions inside. all_then (λ position. position < length keys) (λ position. slice_get all (move position) ≡ slice_get keys position) stand positions inside)
+        places within
 
 -- one position more has one key more
 pub one_position_more : (keys : List Key) (positions : List ℕ) (position : ℕ) (key : Key) → slice_get keys position ≡ Some key → keys_at_positions keys (positions ++ position ∷ []) ≡ keys_at_positions keys positions ++ key ∷ []

@@ -7,3 +7,4 @@ pub mod AdmitEntries
 pub mod AdmitPlaces
 pub mod AdmitFresh
 pub mod UnusedDropped
+pub mod AdmitSteps
