@@ -1,7 +1,8 @@
 -- Steps of the loops that enter places: one key more, and one place more.
-use Rattle.std.proofs.Common.{◌≡◌, ℕ, zero, suc, ◌+◌, ◌*◌, ◌<◌, ◌≤◌, Bool, true, List, [], ◌∷◌, ◌++◌, map, length, get_or, take, Some, slice_get, refl, sym, ap, subst, ◌∙◌, arith}
-use Rattle.std.proofs.lemmas.List.{length-map, take_more}
+use Rattle.std.proofs.Common.{◌≡◌, ℕ, zero, suc, ◌+◌, ◌*◌, ◌<◌, ◌≤◌, Bool, true, List, [], ◌∷◌, ◌++◌, map, length, get_or, take, Some, slice_get, append_assoc, mul-add, refl, sym, ap, subst, ◌∙◌, arith}
+use Rattle.std.proofs.lemmas.List.{length-map, length-take, take-append-le, take_all, take_more}
 use Rattle.std.proofs.lemmas.List.Elements.{All-from_recursion}
+use Rattle.std.proofs.lemmas.List.Sums.{sum_by_more}
 use Rattle.std.proofs.lemmas.Option.{slice_get_within}
 use Rattle.std.specs.List.{AllByRecursion, AllZip, sum_by}
 use Rattle.std.specs.List.Sorted.{IsStrictlySortedBy}
@@ -59,3 +60,56 @@ step_digits old new before now same bound = subst (λ n. now ≤ before + digits
 
 pub cost_digits : (old new count index now start : ℕ) → new ≡ old → index ≡ count → now ≤ start + digits old * index → now ≤ start + digits new * count
 cost_digits old new count index now start same end bound = subst (λ n. now ≤ start + digits n * count) (sym same) (subst (λ i. now ≤ start + digits old * i) end bound)
+
+-- ---- one place more
+
+zip_then : {A B : Type 0} (R S : A → B → Type 0) → ((x : A) (y : B) → R x y → S x y) → (xs : List A) (ys : List B) → AllZip R xs ys → AllZip S xs ys
+zip_then R S step [] [] all = tt
+zip_then R S step [] (y ∷ ys) all = absurd all
+zip_then R S step (x ∷ xs) [] all = absurd all
+zip_then R S step (x ∷ xs) (y ∷ ys) all = (step x y all.0, zip_then R S step xs ys all.1)
+
+zip_more : {A B : Type 0} (R : A → B → Type 0) (xs : List A) (ys : List B) (x : A) (y : B) → AllZip R xs ys → R x y → AllZip R (xs ++ x ∷ []) (ys ++ y ∷ [])
+zip_more R [] [] x y all here = (here, tt)
+zip_more R [] (z ∷ ys) x y all here = absurd all
+zip_more R (z ∷ xs) [] x y all here = absurd all
+zip_more R (z ∷ xs) (w ∷ ys) x y all here = (all.0, zip_more R xs ys x y all.1 here)
+
+more_read : {X : Type 0} (xs : List X) (place : ℕ) (x : X) → place < length xs → x ≡ get_or xs place x → take (place + 1) xs ≡ take place xs ++ x ∷ []
+more_read xs place x within is = take_more xs place x within ∙ ap (λ y. take place xs ++ y ∷ []) (sym is)
+
+pub ready_places_step : {Value : Type 0} (IsReady : Value → List Cell → Type 0) (old new : List (Entry Value)) (rows : List (List Cell)) (keys : List (List Key)) (place : ℕ) (row : List Cell) (own : List Key) → StayReady IsReady old new → place < length rows → length keys ≡ length rows → row ≡ get_or rows place row → own ≡ get_or keys place own → AreReady IsReady old (take place rows) (take place keys) → AllByRecursion (λ key. IsReadyAt IsReady new key row) own → AreReady IsReady new (take (place + 1) rows) (take (place + 1) keys)
+ready_places_step {Value} IsReady old new rows keys place row own stay within each is_row is_own so_far here =
+    let Ready : List (Entry Value) → List Cell → List Key → Type 0 = λ entries row own. AllByRecursion (λ key. IsReadyAt IsReady entries key row) own in
+    let kept : AllZip (Ready new) (take place rows) (take place keys) = zip_then (Ready old) (Ready new) (λ row own all. all_then (λ key. IsReadyAt IsReady old key row) (λ key. IsReadyAt IsReady new key row) (λ key ready. stay key row ready) own all) (take place rows) (take place keys) so_far in
+    subst (λ rs. AllZip (Ready new) rs (take (place + 1) keys)) (sym (more_read rows place row within is_row))
+        (subst (AllZip (Ready new) (take place rows ++ row ∷ [])) (sym (more_read keys place own (omega (arith, within, each)) is_own)) (zip_more (Ready new) (take place rows) (take place keys) row own kept here))
+
+pub places_step : (old new : List Key) (begun : List (List Key)) (places : List (List ℕ)) (positions : List ℕ) (keys : List (List Key)) (place : ℕ) (own : List Key) → new ≡ old → place < length keys → own ≡ get_or keys place own → key_lists old places ≡ begun ++ take place keys → keys_at_positions new positions ≡ own → key_lists new (places ++ positions ∷ []) ≡ begun ++ take (place + 1) keys
+places_step old new begun places positions keys place own same within is so_far here =
+    one_place_more new places positions
+    ∙ ap (λ one. key_lists new places ++ one ∷ []) here
+    ∙ ap (λ lists. lists ++ own ∷ []) (ap (λ ks. key_lists ks places) same ∙ so_far)
+    ∙ append_assoc begun (take place keys) (own ∷ [])
+    ∙ ap (λ lists. begun ++ lists) (sym (more_read keys place own within is))
+
+pub begun_step : (first places : List (List ℕ)) (own : List ℕ) → take (length first) places ≡ first → take (length first) (places ++ own ∷ []) ≡ first
+begun_step first places own begun =
+    let fits : length first ≤ length places = omega (arith, ap length begun, length-take (length first) places) in
+    take-append-le (length first) places (own ∷ []) fits ∙ begun
+
+pub within_places_step : (old new : ℕ) (places : List (List ℕ)) (own : List ℕ) → new ≡ old → AreWithin old places → AllByRecursion (λ position. position < new) own → AreWithin new (places ++ own ∷ [])
+within_places_step old new places own same all here =
+    all_more (AllByRecursion (λ position. position < new)) places own (subst (λ n. AreWithin n places) (sym same) all) here
+
+cost_more : (cost sum more before now start : ℕ) → now ≤ before + cost * more → before ≤ start + cost * sum → now ≤ start + cost * (sum + more)
+cost_more cost sum more before now start step so_far = let apart : cost * (sum + more) ≡ cost * sum + cost * more = mul-add cost sum more in omega (arith, step, so_far, apart)
+
+pub cost_places_step : (first new : ℕ) (keys : List (List Key)) (place : ℕ) (own : List Key) (before now start : ℕ) → new ≡ first → place < length keys → own ≡ get_or keys place own → now ≤ before + digits new * length own → before ≤ start + digits first * sum_by length (take place keys) → now ≤ start + digits first * sum_by length (take (place + 1) keys)
+cost_places_step first new keys place own before now start same within is step so_far =
+    let more : sum_by length (take (place + 1) keys) ≡ sum_by length (take place keys) + length own = sum_by_more length keys place own within ∙ ap (λ o. sum_by length (take place keys) + length o) (sym is) in
+    subst (λ sum. now ≤ start + digits first * sum) (sym more)
+        (cost_more (digits first) (sum_by length (take place keys)) (length own) before now start (subst (λ n. now ≤ before + digits n * length own) same step) so_far)
+
+pub cost_places_end : (first new : ℕ) (keys : List (List Key)) (place now start : ℕ) → new ≡ first → length keys ≤ place → now ≤ start + digits first * sum_by length (take place keys) → now ≤ start + digits new * sum_by length keys
+cost_places_end first new keys place now start same end bound = cost_digits first new (sum_by length keys) (sum_by length (take place keys)) now start same (ap (sum_by length) (take_all place keys end)) bound
