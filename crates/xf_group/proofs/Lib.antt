@@ -8,3 +8,4 @@ pub mod AdmitPlaces
 pub mod AdmitFresh
 pub mod UnusedDropped
 pub mod AdmitSteps
+pub mod AdmitKeys
