@@ -1,5 +1,6 @@
 -- New entries among the old: all keys are those of both, each old key stands where the new positions say, and each value means what it did.
 use Rattle.std.proofs.Common.{◌≡◌, ℕ, zero, suc, ◌+◌, ◌<◌, ◌≤◌, Bool, true, false, not, ◌&&◌, ◌||◌, cond, List, [], ◌∷◌, ◌++◌, map, length, Some, slice_get, slice_index, refl, sym, ap, subst, ◌∙◌, arith, ⊎_elim}
+use Rattle.std.proofs.lemmas.Cmp.{tied_itself}
 use Rattle.std.proofs.lemmas.List.{length-append, length-map, map-append}
 use Rattle.std.proofs.lemmas.List.Folds.{list_any-append}
 use Rattle.std.proofs.lemmas.List.Sorted.{IsPermutation-map, length_permutation, list_any-IsPermutation, sum_by-IsPermutation}
@@ -116,3 +117,33 @@ stand_entered keys fresh all order sorted sorted_all moved same place within =
   where
     start : (n : ℕ) → 0 + n ≡ n
     start n = omega arith
+
+-- ---- each key of the lists is among all
+
+or_true : (b : Bool) → (b || true) ≡ true
+or_true true = refl
+or_true false = refl
+
+each_in_list : (keys : List Key) (Q : Key → Type 0) → ((key : Key) → is_among key_cmp keys key ≡ true → Q key) → AllByRecursion Q keys
+each_in_list [] Q step = tt
+each_in_list (key ∷ keys) Q step = (
+  step key (ap (λ r. is_eq r || is_among key_cmp keys key) (tied_itself key_cmp_total key)),
+  each_in_list keys Q (λ later among. step later (ap (λ b. is_eq (key_cmp later key) || b) among ∙ or_true (is_eq (key_cmp later key)))),
+)
+
+each_in_lists : (lists : List (List Key)) (Q : Key → Type 0) → ((key : Key) → is_among key_cmp (all_keys lists) key ≡ true → Q key) → AllByRecursion (AllByRecursion Q) lists
+each_in_lists [] Q step = tt
+each_in_lists (own ∷ lists) Q step =
+    let joined : (key : Key) → is_among key_cmp (all_keys (own ∷ lists)) key ≡ (is_among key_cmp own key || is_among key_cmp (all_keys lists) key) = λ key. list_any-append (λ other. is_eq (key_cmp key other)) own (all_keys lists) in (
+      each_in_list own Q (λ key among. step key (joined key ∙ ap (λ b. b || is_among key_cmp (all_keys lists) key) among)),
+      each_in_lists lists Q (λ key among. step key (joined key ∙ ap (λ b. is_among key_cmp own key || b) among ∙ or_true (is_among key_cmp own key))),
+    )
+
+pub each_entered : (old : List Key) (lists : List (List Key)) (all : List Key) → all ≡ distinct_keys key_cmp (old ++ all_keys lists) → AllByRecursion (AllByRecursion (λ key. is_among key_cmp all key ≡ true)) lists
+each_entered old lists all same =
+    each_in_lists lists (λ key. is_among key_cmp all key ≡ true) (λ key among.
+    ap (λ keys. is_among key_cmp keys key) same
+    ∙ ties-distinct_keys key_cmp_total key (old ++ all_keys lists)
+    ∙ list_any-append (λ other. is_eq (key_cmp key other)) old (all_keys lists)
+    ∙ ap (λ b. is_among key_cmp old key || b) among
+    ∙ or_true (is_among key_cmp old key))

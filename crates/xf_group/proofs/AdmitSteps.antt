@@ -1,5 +1,5 @@
 -- Steps of the loops that enter places: one key more, and one place more.
-use Rattle.std.proofs.Common.{◌≡◌, ℕ, zero, suc, ◌+◌, ◌*◌, ◌<◌, ◌≤◌, Bool, true, List, [], ◌∷◌, ◌++◌, map, length, get_or, take, Some, slice_get, append_assoc, mul-add, refl, sym, ap, subst, ◌∙◌, arith}
+use Rattle.std.proofs.Common.{◌≡◌, ℕ, zero, suc, ◌+◌, ◌*◌, ◌<◌, ◌≤◌, Bool, true, List, [], ◌∷◌, ◌++◌, map, length, get_or, take, Some, slice_get, append_assoc, add-mul, mul-add, refl, sym, ap, subst, ◌∙◌, arith}
 use Rattle.std.proofs.lemmas.List.{length-map, length-take, take-append-le, take_all, take_more}
 use Rattle.std.proofs.lemmas.List.Elements.{All-from_recursion}
 use Rattle.std.proofs.lemmas.List.Sums.{sum_by_more}
@@ -113,3 +113,7 @@ cost_places_step first new keys place own before now start same within is step s
 
 pub cost_places_end : (first new : ℕ) (keys : List (List Key)) (place now start : ℕ) → new ≡ first → length keys ≤ place → now ≤ start + digits first * sum_by length (take place keys) → now ≤ start + digits new * sum_by length keys
 cost_places_end first new keys place now start same end bound = cost_digits first new (sum_by length keys) (sum_by length (take place keys)) now start same (ap (sum_by length) (take_all place keys end)) bound
+
+-- a step more for each key is no less
+pub cost_slack : (cost sum now start : ℕ) → now ≤ start + cost * sum → now ≤ start + (cost + 1) * sum
+cost_slack cost sum now start bound = let more : (cost + 1) * sum ≡ cost * sum + 1 * sum = add-mul cost 1 sum in omega (arith, bound, more)
