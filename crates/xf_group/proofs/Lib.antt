@@ -2,6 +2,10 @@ pub mod HalvedDigits
 pub mod AscendingEntries
 pub mod PlacedKeys
 pub mod KeptEntries
+pub mod AdmitOrder
+pub mod AdmitEntries
+pub mod AdmitPlaces
+pub mod AdmitFresh
 pub mod UnusedDropped
 pub mod ChangedEach
 pub mod RanksMore
@@ -10,3 +14,7 @@ pub mod ChangedGroup
 pub mod DroppedGroup
 pub mod RisingOnce
 pub mod RankedPairs
+pub mod AdmitSteps
+pub mod AdmitKeys
+pub mod Meanings
+pub mod JoinedGroup

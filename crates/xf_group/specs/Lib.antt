@@ -6,3 +6,4 @@ pub mod Held
 pub mod Used
 pub mod ChangedAt
 pub mod Ranks
+pub mod Fresh
