@@ -38,6 +38,20 @@ all_of : {X : Type 0} (P : X → Type 0) → ((x : X) → P x) → (xs : List X)
 all_of P each [] = tt
 all_of P each (x ∷ xs) = (each x, all_of P each xs)
 
+-- ---- what is left once entries are dropped
+
+-- a key that some place has has the value that it had
+pub left_value : {V : Type 0} (mid : List (Entry V)) (keys : List Key) (places : List (List ℕ)) (q : Key) → is_among key_cmp (all_keys (key_lists keys places)) q ≡ true → value_at (filter (is_placed keys places) mid) q ≡ value_at mid q
+left_value {V} mid keys places q among =
+    ap (option_map (λ (entry : Entry V). entry.value))
+        (find-filter (is_entry_of q) (is_placed keys places) (λ entry tied. ap (is_among key_cmp (all_keys (key_lists keys places))) (tied_equal q entry.key tied) ∙ among) mid)
+
+left_among : {V : Type 0} (mid : List (Entry V)) (places : List (List ℕ)) → AllByRecursion (λ q. is_among key_cmp (all_keys (key_lists (keys_of mid) places)) q ≡ true) (keys_of (filter (is_placed (keys_of mid) places) mid))
+left_among {V} mid places =
+    let all : List Key = all_keys (key_lists (keys_of mid) places) in
+    subst (AllByRecursion (λ q. is_among key_cmp all q ≡ true)) (sym (map-filter (λ (entry : Entry V). entry.key) (is_among key_cmp all) mid))
+        (recursion_from_All (λ q. is_among key_cmp all q ≡ true) (filter (is_among key_cmp all) (keys_of mid)) (filter_passes (is_among key_cmp all) (keys_of mid)))
+
 module _ {V Meaning : Type 0} (meaning_of : V → Meaning) (nothing : Meaning) where
   -- a key with what its value means
   abbrev pub meant : List (Entry V) → Key → Key × Meaning
@@ -67,20 +81,6 @@ module _ {V Meaning : Type 0} (meaning_of : V → Meaning) (nothing : Meaning) w
   pub entered_meanings : (old new : List (Entry V)) (places : List (List Key)) → IsStrictlySortedBy key_cmp (keys_of new) → keys_of new ≡ keys_in places → SameMeanings meaning_of nothing old new → meanings meaning_of new ≡ meanings_for meaning_of nothing old places
   entered_meanings old new places sorted keys same = own_meanings new sorted ∙ same_meant old new (keys_of new) same ∙ ap (map (meant old)) keys
 
-  -- ---- what is left once entries are dropped
-
-  -- a key that some place has has the value that it had
-  pub left_value : (mid : List (Entry V)) (keys : List Key) (places : List (List ℕ)) (q : Key) → is_among key_cmp (all_keys (key_lists keys places)) q ≡ true → value_at (filter (is_placed keys places) mid) q ≡ value_at mid q
-  left_value mid keys places q among =
-      ap (option_map (λ (entry : Entry V). entry.value))
-          (find-filter (is_entry_of q) (is_placed keys places) (λ entry tied. ap (is_among key_cmp (all_keys (key_lists keys places))) (tied_equal q entry.key tied) ∙ among) mid)
-
-  left_among : (mid : List (Entry V)) (places : List (List ℕ)) → AllByRecursion (λ q. is_among key_cmp (all_keys (key_lists (keys_of mid) places)) q ≡ true) (keys_of (filter (is_placed (keys_of mid) places) mid))
-  left_among mid places =
-      let all : List Key = all_keys (key_lists (keys_of mid) places) in
-      subst (AllByRecursion (λ q. is_among key_cmp all q ≡ true)) (sym (map-filter (λ (entry : Entry V). entry.key) (is_among key_cmp all) mid))
-          (recursion_from_All (λ q. is_among key_cmp all q ≡ true) (filter (is_among key_cmp all) (keys_of mid)) (filter_passes (is_among key_cmp all) (keys_of mid)))
-
   -- the meanings once the keys that were entered are dropped again
   pub left_meanings : (old mid left : List (Entry V)) (places : List (List ℕ)) → IsStrictlySortedBy key_cmp (keys_of old) → IsStrictlySortedBy key_cmp (keys_of left) → left ≡ filter (is_placed (keys_of mid) places) mid → keys_of left ≡ keys_of old → SameMeanings meaning_of nothing old mid
       → meanings meaning_of left ≡ meanings meaning_of old
@@ -95,13 +95,13 @@ module _ {V Meaning : Type 0} (meaning_of : V → Meaning) (nothing : Meaning) w
       own_meanings left sorted_left ∙ as_mid ∙ same_meant old mid (keys_of left) same ∙ ap (map (meant old)) keys ∙ sym (own_meanings old sorted)
 
 -- a key whose value is found is among the keys
+found_step : {X Y : Type 0} (f : X → Y) (p : X → Bool) (x : X) (xs : List X) (y : Y) (b : Bool) → p x ≡ b → (option_map f (find p xs) ≡ Some y → list_any p xs ≡ true) → option_map f (find p (x ∷ xs)) ≡ Some y → list_any p (x ∷ xs) ≡ true
+found_step f p x xs y true here rest found = or_left (p x) (list_any p xs) here
+found_step f p x xs y false here rest found = or_right (p x) (list_any p xs) (rest (sym (ap (λ b. option_map f (cond b (Some x) (find p xs))) here) ∙ found))
+
 found_any : {X Y : Type 0} (f : X → Y) (p : X → Bool) (xs : List X) (y : Y) → option_map f (find p xs) ≡ Some y → list_any p xs ≡ true
 found_any f p [] y found = absurd cc
-found_any f p (x ∷ xs) y found = by_test (p x) refl
-  where
-    by_test : (b : Bool) → p x ≡ b → list_any p (x ∷ xs) ≡ true
-    by_test true here = or_left (p x) (list_any p xs) here
-    by_test false here = or_right (p x) (list_any p xs) (found_any f p xs y (sym (ap (λ b. option_map f (cond b (Some x) (find p xs))) here) ∙ found))
+found_any f p (x ∷ xs) y found = found_step f p x xs y (p x) refl (found_any f p xs y) found
 
 any-map : {X Y : Type 0} (f : X → Y) (p : Y → Bool) (xs : List X) → list_any (λ x. p (f x)) xs ≡ list_any p (map f xs)
 any-map f p [] = refl
@@ -118,4 +118,4 @@ left_ready {V} IsReady old mid left places is keys stay key row ready =
     let all : List Key = all_keys (key_lists (keys_of mid) places) in
     let among : is_among key_cmp all key ≡ true = sym (ties-distinct_keys key_cmp_total key all) ∙ sym (ap (λ ks. is_among key_cmp ks key) keys) ∙ value_among old key ready.0 ready.1 in
     let there = stay key row ready in
-    (there.0, ap (λ es. value_at es key) is ∙ left_value {V} {V} (λ v. v) there.0 mid (keys_of mid) places key among ∙ there.1, there.2)
+    (there.0, ap (λ es. value_at es key) is ∙ left_value mid (keys_of mid) places key among ∙ there.1, there.2)

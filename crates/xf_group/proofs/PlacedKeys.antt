@@ -30,10 +30,10 @@ pub all_then : {X : Type 0} (P Q : X → Type 0) → ((x : X) → P x → Q x) �
 all_then P Q step [] all = tt
 all_then P Q step (x ∷ xs) all = (step x all.0, all_then P Q step xs all.1)
 
-or_left : (a b : Bool) → a ≡ true → (a || b) ≡ true
+pub or_left : (a b : Bool) → a ≡ true → (a || b) ≡ true
 or_left a b held = rw held refl
 
-or_right : (a b : Bool) → b ≡ true → (a || b) ≡ true
+pub or_right : (a b : Bool) → b ≡ true → (a || b) ≡ true
 or_right true b held = refl
 or_right false b held = held
 
