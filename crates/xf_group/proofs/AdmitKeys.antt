@@ -1,5 +1,5 @@
 -- New entries among the old: all keys are those of both, each old key stands where the new positions say, and each value means what it did.
-use Rattle.std.proofs.Common.{◌≡◌, ℕ, zero, suc, ◌+◌, ◌<◌, ◌≤◌, Bool, true, false, not, ◌&&◌, ◌||◌, cond, List, [], ◌∷◌, ◌++◌, map, length, Some, slice_get, slice_index, refl, sym, ap, subst, ◌∙◌, arith, ⊎_elim}
+use Rattle.std.proofs.Common.{◌≡◌, ℕ, zero, suc, ◌+◌, Bool, true, false, not, ◌&&◌, ◌||◌, cond, List, [], ◌∷◌, ◌++◌, map, length, Some, slice_get, slice_index, refl, sym, ap, subst, ◌∙◌, arith, ⊎_elim}
 use Rattle.std.proofs.lemmas.Cmp.{tied_itself}
 use Rattle.std.proofs.lemmas.List.{length-append, length-map, map-append}
 use Rattle.std.proofs.lemmas.List.Folds.{list_any-append}
@@ -32,8 +32,8 @@ fresh-among : (old : List Key) (lists : List (List Key)) (q : Key) → is_among 
 fresh-among old lists q =
     ties-distinct_keys key_cmp_total q (new_keys old lists)
     ∙ any-filter_same (λ own. is_eq (key_cmp q own)) (λ key. not (is_among key_cmp old key)) (not (is_among key_cmp old q))
-        (λ own tied. ap (λ key. not (is_among key_cmp old key)) (sym (key_cmp-equal q own (equal_from_test (key_cmp q own) tied))))
-        (all_keys lists)
+    (λ own tied. ap (λ key. not (is_among key_cmp old key)) (sym (key_cmp-equal q own (equal_from_test (key_cmp q own) tied))))
+    (all_keys lists)
 
 -- no old key is fresh
 pub fresh-apart : (old : List Key) (lists : List (List Key)) (q : Key) → is_among key_cmp old q ≡ true → is_among key_cmp (fresh_keys old lists) q ≡ false
@@ -64,7 +64,7 @@ all_keys_entered old lists all moved sorted =
 keys_moved : {Value : Type 0} (old added new : List (Entry Value)) (fresh : List Key) → keys_of added ≡ fresh → IsPermutation (old ++ added) new → IsPermutation (keys_of old ++ fresh) (keys_of new)
 keys_moved {Value} old added new fresh same moved =
     subst (λ keys. IsPermutation keys (keys_of new)) (map-append (λ (entry : Entry Value). entry.key) old added ∙ ap (λ keys. keys_of old ++ keys) same)
-        (IsPermutation-map (λ (entry : Entry Value). entry.key) (old ++ added) new moved)
+    (IsPermutation-map (λ (entry : Entry Value). entry.key) (old ++ added) new moved)
 
 -- what a sort of the old entries and of those of the fresh keys makes
 pub record AreEntered {Value : Type 0} (old added new : List (Entry Value)) (lists : List (List Key)) : Type 0 where

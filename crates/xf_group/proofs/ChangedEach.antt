@@ -1,12 +1,11 @@
 -- Values at ascending positions change one after another, each once.
-use Rattle.std.proofs.Common.{◌≡◌, ◌≢◌, ℕ, zero, suc, ◌+◌, ◌<◌, Bool, true, false, ◌||◌, eqb, List, [], ◌∷◌, ◌++◌, Option, length, get_or, set, take, refl, sym, ap, subst, ◌∙◌, arith, ⊎_elim, get_or-set_other, get_or-set_same}
-use Rattle.std.proofs.lemmas.Bool.{cases_eq, false≢true}
+use Rattle.std.proofs.Common.{◌≡◌, ◌≢◌, ℕ, zero, suc, ◌+◌, ◌<◌, Bool, true, false, ◌||◌, eqb, List, [], ◌∷◌, Option, length, get_or, set, take, refl, sym, ap, subst, ◌∙◌, arith, ⊎_elim, get_or-set_other, get_or-set_same}
+use Rattle.std.proofs.lemmas.Bool.{cases_eq}
 use Rattle.std.proofs.lemmas.Bool.Decides.{nat_tests}
 use Rattle.std.proofs.lemmas.Cmp.{ranked}
 use Rattle.std.proofs.lemmas.List.{length-set, take_more}
 use Rattle.std.proofs.lemmas.List.Elements.{All-from_recursion}
 use Rattle.std.proofs.lemmas.List.Folds.{list_any-append}
-use Rattle.std.specs.List.{AllByRecursion, list_any}
 use Rattle.std.specs.List.Sorted.{IsStrictlySortedBy}
 use Rattle.std.specs.Ordering.{nat_cmp}
 use Rattle.std.specs.declared.cmp.Ordering.TheVariants.{Less}
@@ -79,27 +78,27 @@ module _ {Value Meaning : Type 0} (meaning_of : Value → Meaning) (changed : Me
       record {
         each = ap length is ∙ length-set now p entry ∙ so_far.each;
         key = λ k d known.
-          ⊎_elim
-              (λ (same : k ≡ p).
-                let here : get_or new k d ≡ entry = ap (λ es. get_or es k d) is ∙ ap (λ n. get_or (set now p entry) n d) same ∙ get_or-set_same now p entry d room in
-                ap (λ (e : Entry Value). e.key) here ∙ key d ∙ so_far.key p d within ∙ ap (λ n. (get_or old n d).key) (sym same))
-              (λ (other : k ≡ p → ⊥).
-                let here : get_or new k d ≡ get_or now k d = ap (λ es. get_or es k d) is ∙ get_or-set_other now p k entry d other in
-                ap (λ (e : Entry Value). e.key) here ∙ so_far.key k d known)
-              (cases_eq k p);
+            ⊎_elim
+            (λ (same : k ≡ p).
+            let here : get_or new k d ≡ entry = ap (λ es. get_or es k d) is ∙ ap (λ n. get_or (set now p entry) n d) same ∙ get_or-set_same now p entry d room in
+            ap (λ (e : Entry Value). e.key) here ∙ key d ∙ so_far.key p d within ∙ ap (λ n. (get_or old n d).key) (sym same))
+            (λ (other : k ≡ p → ⊥).
+            let here : get_or new k d ≡ get_or now k d = ap (λ es. get_or es k d) is ∙ get_or-set_other now p k entry d other in
+            ap (λ (e : Entry Value). e.key) here ∙ so_far.key k d known)
+            (cases_eq k p);
         value = λ k d known.
-          ⊎_elim
-              (λ (same : k ≡ p).
-                let here : get_or new p d ≡ entry = ap (λ es. get_or es p d) is ∙ get_or-set_same now p entry d room in
-                let before : (get_or now p d).value ≡ (get_or old p d).value = unchanged_yet (take i positions) old now p d so_far within (not_listed positions sorted i inside) in
-                let changes : IsChanged meaning_of changed IsReady calls (get_or old p d).value (get_or new p d).value =
-                    subst (λ v. IsChanged meaning_of changed IsReady calls v (get_or new p d).value) before
-                        (subst (λ (e : Entry Value). IsChanged meaning_of changed IsReady calls (get_or now p d).value e.value) (sym here) (value d)) in
-                subst (λ n. IsChangedIf meaning_of changed IsReady calls (is_listed (take (i + 1) positions) n) (get_or old n d).value (get_or new n d).value) (sym same)
-                    (changed_if (is_listed (take (i + 1) positions) p) (get_or old p d).value (get_or new p d).value (listed_last positions i inside) changes))
-              (λ (other : k ≡ p → ⊥).
-                let here : get_or new k d ≡ get_or now k d = ap (λ es. get_or es k d) is ∙ get_or-set_other now p k entry d other in
-                subst (λ b. IsChangedIf meaning_of changed IsReady calls b (get_or old k d).value (get_or new k d).value) (sym (listed_other positions i k inside other))
-                    (subst (λ (e : Entry Value). IsChangedIf meaning_of changed IsReady calls (is_listed (take i positions) k) (get_or old k d).value e.value) (sym here) (so_far.value k d known)))
-              (cases_eq k p);
+            ⊎_elim
+            (λ (same : k ≡ p).
+            let here : get_or new p d ≡ entry = ap (λ es. get_or es p d) is ∙ get_or-set_same now p entry d room in
+            let before : (get_or now p d).value ≡ (get_or old p d).value = unchanged_yet (take i positions) old now p d so_far within (not_listed positions sorted i inside) in
+            let changes : IsChanged meaning_of changed IsReady calls (get_or old p d).value (get_or new p d).value =
+            subst (λ v. IsChanged meaning_of changed IsReady calls v (get_or new p d).value) before
+            (subst (λ (e : Entry Value). IsChanged meaning_of changed IsReady calls (get_or now p d).value e.value) (sym here) (value d)) in
+            subst (λ n. IsChangedIf meaning_of changed IsReady calls (is_listed (take (i + 1) positions) n) (get_or old n d).value (get_or new n d).value) (sym same)
+            (changed_if (is_listed (take (i + 1) positions) p) (get_or old p d).value (get_or new p d).value (listed_last positions i inside) changes))
+            (λ (other : k ≡ p → ⊥).
+            let here : get_or new k d ≡ get_or now k d = ap (λ es. get_or es k d) is ∙ get_or-set_other now p k entry d other in
+            subst (λ b. IsChangedIf meaning_of changed IsReady calls b (get_or old k d).value (get_or new k d).value) (sym (listed_other positions i k inside other))
+            (subst (λ (e : Entry Value). IsChangedIf meaning_of changed IsReady calls (is_listed (take i positions) k) (get_or old k d).value e.value) (sym here) (so_far.value k d known)))
+            (cases_eq k p);
       }

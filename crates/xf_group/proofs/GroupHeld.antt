@@ -1,11 +1,11 @@
 -- What a group keeps, and the keys of one place.
-use Rattle.std.proofs.Common.{◌≡◌, ℕ, zero, suc, ◌+◌, ◌<◌, ◌≤◌, Bool, true, false, List, [], ◌∷◌, Option, Some, None, map, length, get_or, slice_get, refl, sym, ap, subst, ◌∙◌, arith, ⊎_elim}
+use Rattle.std.proofs.Common.{◌≡◌, ℕ, zero, suc, ◌<◌, ◌≤◌, Bool, List, [], ◌∷◌, Some, None, length, get_or, slice_get, refl, sym, ap, subst, ◌∙◌, arith, ⊎_elim}
 use Rattle.std.proofs.lemmas.Bool.{cases_lt, lt-ltb}
-use Rattle.std.proofs.lemmas.List.{get_or-map, length-map, same_lists}
+use Rattle.std.proofs.lemmas.List.{get_or-map, length-map}
 use Rattle.std.proofs.lemmas.List.Folds.{find_at}
 use Rattle.std.proofs.lemmas.List.Quantifiers.{position-Some}
 use Rattle.std.proofs.lemmas.List.Sums.{position_or_len_is}
-use Rattle.std.proofs.lemmas.Option.{slice_get-map, slice_get_past, slice_get_within}
+use Rattle.std.proofs.lemmas.Option.{slice_get-map, slice_get_past}
 use Rattle.std.specs.List.{AllByRecursion, AllZip, find, position, position_or_len}
 use Rattle.std.specs.List.Sorted.{IsStrictlySortedBy}
 use Rattle.std.specs.Option.{option_map, unwrap_or}
@@ -50,11 +50,11 @@ found_at {X} p (x ∷ xs) i here =
 pub found_none : {X : Type 0} (p : X → Bool) (xs : List X) → position p xs ≡ None → find p xs ≡ None
 found_none {X} p xs none =
     ⊎_elim
-        (λ (early : position_or_len p xs < length xs).
-          let some : position p xs ≡ Some (position_or_len p xs) = rw (lt-ltb (position_or_len p xs) (length xs) early) refl in
-          absurd cc)
-        (λ (late : length xs ≤ position_or_len p xs). find_at p xs ∙ slice_get_past xs (position_or_len p xs) late)
-        (cases_lt (position_or_len p xs) (length xs))
+    (λ (early : position_or_len p xs < length xs).
+    let some : position p xs ≡ Some (position_or_len p xs) = rw (lt-ltb (position_or_len p xs) (length xs) early) refl in
+    absurd cc)
+    (λ (late : length xs ≤ position_or_len p xs). find_at p xs ∙ slice_get_past xs (position_or_len p xs) late)
+    (cases_lt (position_or_len p xs) (length xs))
 
 pub value_found : {V : Type 0} (entries : List (Entry V)) (key : Key) (i : ℕ) (d : Entry V) → position (is_entry_of key) entries ≡ Some i → slice_get entries i ≡ Some (get_or entries i d) → value_at entries key ≡ Some (get_or entries i d).value
 value_found {V} entries key i d here there = ap (option_map (λ (entry : Entry V). entry.value)) (found_at (is_entry_of key) entries i here ∙ there)
@@ -93,7 +93,7 @@ module _ {R V : Type 0} (reducer : R) where
   pub own_ascend : (entries : List (Entry V)) (places : List (List ℕ)) (place : ℕ) (own : List ℕ) → IsGroup (grouped reducer entries places) → AreWithin (length entries) places → Some own ≡ slice_get places place → IsStrictlySortedBy nat_cmp own
   own_ascend entries places place own group within here =
       positions_ascend (keys_of entries) (keys_sorted entries places group) own (own_keys_within entries own (own_within entries places place own within here))
-          (all_at (IsStrictlySortedBy key_cmp) (key_lists (keys_of entries) places) place (keys_at_positions (keys_of entries) own) group.ascend (place_keys entries places place own here))
+      (all_at (IsStrictlySortedBy key_cmp) (key_lists (keys_of entries) places) place (keys_at_positions (keys_of entries) own) group.ascend (place_keys entries places place own here))
 
   -- the key of an entry is among them where its position is
   pub own_among : (entries : List (Entry V)) (places : List (List ℕ)) (place : ℕ) (own : List ℕ) (k : ℕ) (d : Entry V) → IsGroup (grouped reducer entries places) → AreWithin (length entries) places → Some own ≡ slice_get places place → k < length entries

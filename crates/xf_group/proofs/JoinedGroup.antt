@@ -1,5 +1,5 @@
 -- A group with new places is a group.
-use Rattle.std.proofs.Common.{◌≡◌, ℕ, ◌<◌, Bool, ◌||◌, List, [], ◌∷◌, ◌++◌, take, length, zero, suc, refl, sym, ap, subst, ◌∙◌}
+use Rattle.std.proofs.Common.{◌≡◌, ℕ, Bool, ◌||◌, List, [], ◌∷◌, ◌++◌, take, zero, suc, sym, ap, subst, ◌∙◌}
 use Rattle.std.proofs.lemmas.Grind.{flat_map-append}
 use Rattle.std.proofs.lemmas.List.Folds.{list_any-append}
 use Rattle.std.specs.List.{AllByRecursion}
@@ -30,10 +30,10 @@ all-take P (suc n) (x ∷ xs) all = (all.0, all-take P n xs all.1)
 distinct_first : (xs ys : List Key) → distinct_keys key_cmp (distinct_keys key_cmp xs ++ ys) ≡ distinct_keys key_cmp (xs ++ ys)
 distinct_first xs ys =
     same_ascending key_cmp_total key_cmp-equal (distinct_keys key_cmp xs ++ ys) (xs ++ ys) (λ q.
-      let test : Key → Bool = λ own. is_eq (key_cmp q own) in
-      list_any-append test (distinct_keys key_cmp xs) ys
-      ∙ ap (λ b. b || is_among key_cmp ys q) (ties-distinct_keys key_cmp_total q xs)
-      ∙ sym (list_any-append test xs ys))
+    let test : Key → Bool = λ own. is_eq (key_cmp q own) in
+    list_any-append test (distinct_keys key_cmp xs) ys
+    ∙ ap (λ b. b || is_among key_cmp ys q) (ties-distinct_keys key_cmp_total q xs)
+    ∙ sym (list_any-append test xs ys))
 
 pub joined_keys : (old : List Key) (lists more : List (List Key)) → old ≡ keys_in lists → distinct_keys key_cmp (old ++ all_keys more) ≡ keys_in (lists ++ more)
 joined_keys old lists more same =

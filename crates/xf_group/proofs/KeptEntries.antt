@@ -1,8 +1,6 @@
 -- Entries that are kept: by marks, by a test, and what that does to their keys.
-use Rattle.std.proofs.Common.{◌≡◌, ℕ, zero, suc, ◌<◌, ◌≤◌, Bool, true, false, ◌&&◌, ◌||◌, cond, not, List, [], ◌∷◌, Option, Some, None, map, length, get_or, refl, sym, ap, ◌∙◌, arith}
+use Rattle.std.proofs.Common.{◌≡◌, ℕ, suc, ◌<◌, ◌≤◌, Bool, true, false, ◌&&◌, ◌||◌, cond, not, List, [], ◌∷◌, Option, Some, map, length, get_or, refl, sym, ap, ◌∙◌, arith}
 use Rattle.std.proofs.lemmas.Bool.{true≢false}
-use Rattle.std.proofs.lemmas.Cmp.{alike_right}
-use Rattle.std.specs.Cmp.{IsTotalOrder, both_ways}
 use Rattle.std.specs.List.{AllByRecursion, filter, find, list_any}
 use Rattle.std.specs.List.Sorted.{IsStrictlySortedBy}
 use Rattle.std.specs.Ordering.{is_eq}
@@ -13,8 +11,6 @@ use Rattle.xf_base.specs.Gone.{kept}
 use Rattle.xf_base.specs.Key.{key_cmp}
 use Rattle.xf_base.specs.KeyOrder.{key_cmp_total}
 use Rattle.xf_base.specs.declared.key.Key.{Key}
-use Rattle.xf_group.specs.Held.{keys_of}
-use Rattle.xf_group.specs.declared.entry.Entry.{Entry}
 use Rattle.xf_model.specs.Group.{distinct_keys}
 use Rattle.xf_model.specs.Laws.{is_among}
 use Rattle.xf_model.proofs.AscendingKeys.{same_from_ties, sorted-distinct_keys, ties-distinct_keys}
@@ -90,7 +86,7 @@ any_filter p t false same [] = refl
 any_filter {X} p t b same (x ∷ xs) =
     let rest : list_any p (filter t xs) ≡ (b && list_any p xs) = any_filter p t b same xs in
     let moved : list_any p (cond (t x) (x ∷ filter t xs) (filter t xs)) ≡ cond (t x) (p x || list_any p (filter t xs)) (list_any p (filter t xs)) =
-        elim (t x) as (λ c. list_any p (cond c (x ∷ filter t xs) (filter t xs)) ≡ cond c (p x || list_any p (filter t xs)) (list_any p (filter t xs))) [ | true ↦ refl | false ↦ refl ] in
+    elim (t x) as (λ c. list_any p (cond c (x ∷ filter t xs) (filter t xs)) ≡ cond c (p x || list_any p (filter t xs)) (list_any p (filter t xs))) [ true ↦ refl | false ↦ refl ] in
     moved
     ∙ ap (λ later. cond (t x) (p x || later) later) rest
     ∙ any_choice (p x) (t x) b (list_any p xs) (same x)
@@ -108,12 +104,12 @@ tied_equal q k tied = sym (key_cmp-equal q k (equal_from_test (key_cmp q k) tied
 pub remaining_keys : (keys all : List Key) → IsStrictlySortedBy key_cmp keys → ((q : Key) → is_among key_cmp all q ≡ true → is_among key_cmp keys q ≡ true) → filter (is_among key_cmp all) keys ≡ distinct_keys key_cmp all
 remaining_keys keys all sorted within =
     same_from_ties key_cmp_total key_cmp-equal (filter (is_among key_cmp all) keys) (distinct_keys key_cmp all)
-        (sorted-filter key_cmp (is_among key_cmp all) keys sorted)
-        (sorted-distinct_keys key_cmp_total all)
-        (λ q.
-          any_filter (λ own. is_eq (key_cmp q own)) (is_among key_cmp all) (is_among key_cmp all q) (λ k tied. ap (is_among key_cmp all) (tied_equal q k tied)) keys
-          ∙ among_both (is_among key_cmp all q) (is_among key_cmp keys q) (within q)
-          ∙ sym (ties-distinct_keys key_cmp_total q all))
+    (sorted-filter key_cmp (is_among key_cmp all) keys sorted)
+    (sorted-distinct_keys key_cmp_total all)
+    (λ q.
+    any_filter (λ own. is_eq (key_cmp q own)) (is_among key_cmp all) (is_among key_cmp all q) (λ k tied. ap (is_among key_cmp all) (tied_equal q k tied)) keys
+    ∙ among_both (is_among key_cmp all q) (is_among key_cmp keys q) (within q)
+    ∙ sym (ties-distinct_keys key_cmp_total q all))
   where
     among_both : (a b : Bool) → (a ≡ true → b ≡ true) → (a && b) ≡ a
     among_both true b held = held refl
@@ -130,5 +126,5 @@ pub find-filter : {X : Type 0} (p t : X → Bool) → ((x : X) → p x ≡ true 
 find-filter p t same [] = refl
 find-filter {X} p t same (x ∷ xs) =
     let moved : find p (cond (t x) (x ∷ filter t xs) (filter t xs)) ≡ cond (t x) (cond (p x) (Some x) (find p (filter t xs))) (find p (filter t xs)) =
-        elim (t x) as (λ c. find p (cond c (x ∷ filter t xs) (filter t xs)) ≡ cond c (cond (p x) (Some x) (find p (filter t xs))) (find p (filter t xs))) [ | true ↦ refl | false ↦ refl ] in
+    elim (t x) as (λ c. find p (cond c (x ∷ filter t xs) (filter t xs)) ≡ cond c (cond (p x) (Some x) (find p (filter t xs))) (find p (filter t xs))) [ true ↦ refl | false ↦ refl ] in
     moved ∙ find_choice (p x) (t x) x (find p (filter t xs)) (find p xs) (same x) (find-filter p t same xs)

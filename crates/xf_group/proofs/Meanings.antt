@@ -1,6 +1,5 @@
 -- What the values of entries mean, by key.
-use Rattle.std.proofs.Common.{◌≡◌, ℕ, Bool, true, false, ◌||◌, cond, List, [], ◌∷◌, ◌++◌, Option, Some, None, map, length, refl, sym, ap, subst, ◌∙◌, arith}
-use Rattle.std.proofs.lemmas.Bool.{true≢false}
+use Rattle.std.proofs.Common.{◌≡◌, ℕ, Bool, true, false, ◌||◌, cond, List, [], ◌∷◌, Option, Some, map, refl, sym, ap, subst, ◌∙◌}
 use Rattle.std.proofs.lemmas.Cmp.{tied_itself}
 use Rattle.std.proofs.lemmas.List.Elements.{filter_passes, recursion_from_All}
 use Rattle.std.specs.List.{AllByRecursion, filter, find, list_any}
@@ -12,16 +11,14 @@ use Rattle.xf_base.specs.Key.{key_cmp}
 use Rattle.xf_base.specs.KeyOrder.{key_cmp_total}
 use Rattle.xf_base.specs.declared.cell.Cell.{Cell}
 use Rattle.xf_base.specs.declared.key.Key.{Key}
-use Rattle.xf_group.specs.Admitted.{IsReadyAt, SameMeanings, StayReady}
+use Rattle.xf_group.specs.Admitted.{SameMeanings, StayReady}
 use Rattle.xf_group.specs.Group.{is_entry_of, keys_in, meaning_at, meanings, meanings_for, value_at}
-use Rattle.xf_group.specs.Held.{AreWithin, key_lists, keys_of}
+use Rattle.xf_group.specs.Held.{key_lists, keys_of}
 use Rattle.xf_group.specs.declared.entry.Entry.{Entry}
 use Rattle.xf_group.proofs.AscendingEntries.{less_back}
-use Rattle.xf_group.proofs.DroppedGroup.{left_keys}
 use Rattle.xf_group.proofs.KeptEntries.{find-filter, map-filter, tied_equal}
 use Rattle.xf_group.proofs.PlacedKeys.{all_keys, or_left, or_right}
 use Rattle.xf_group.proofs.UnusedDropped.{is_placed}
-use Rattle.xf_model.specs.Group.{distinct_keys}
 use Rattle.xf_model.specs.Laws.{is_among}
 use Rattle.xf_model.proofs.AscendingKeys.{ties-distinct_keys}
 
@@ -44,13 +41,13 @@ all_of P each (x ∷ xs) = (each x, all_of P each xs)
 pub left_value : {V : Type 0} (mid : List (Entry V)) (keys : List Key) (places : List (List ℕ)) (q : Key) → is_among key_cmp (all_keys (key_lists keys places)) q ≡ true → value_at (filter (is_placed keys places) mid) q ≡ value_at mid q
 left_value {V} mid keys places q among =
     ap (option_map (λ (entry : Entry V). entry.value))
-        (find-filter (is_entry_of q) (is_placed keys places) (λ entry tied. ap (is_among key_cmp (all_keys (key_lists keys places))) (tied_equal q entry.key tied) ∙ among) mid)
+    (find-filter (is_entry_of q) (is_placed keys places) (λ entry tied. ap (is_among key_cmp (all_keys (key_lists keys places))) (tied_equal q entry.key tied) ∙ among) mid)
 
 left_among : {V : Type 0} (mid : List (Entry V)) (places : List (List ℕ)) → AllByRecursion (λ q. is_among key_cmp (all_keys (key_lists (keys_of mid) places)) q ≡ true) (keys_of (filter (is_placed (keys_of mid) places) mid))
 left_among {V} mid places =
     let all : List Key = all_keys (key_lists (keys_of mid) places) in
     subst (AllByRecursion (λ q. is_among key_cmp all q ≡ true)) (sym (map-filter (λ (entry : Entry V). entry.key) (is_among key_cmp all) mid))
-        (recursion_from_All (λ q. is_among key_cmp all q ≡ true) (filter (is_among key_cmp all) (keys_of mid)) (filter_passes (is_among key_cmp all) (keys_of mid)))
+    (recursion_from_All (λ q. is_among key_cmp all q ≡ true) (filter (is_among key_cmp all) (keys_of mid)) (filter_passes (is_among key_cmp all) (keys_of mid)))
 
 module _ {V Meaning : Type 0} (meaning_of : V → Meaning) (nothing : Meaning) where
   -- a key with what its value means
@@ -69,7 +66,7 @@ module _ {V Meaning : Type 0} (meaning_of : V → Meaning) (nothing : Meaning) w
   own_meanings [] sorted = refl
   own_meanings (first ∷ rest) sorted =
       let later : map (meant (first ∷ rest)) (keys_of rest) ≡ map (meant rest) (keys_of rest) =
-          map_agree (meant (first ∷ rest)) (meant rest) (keys_of rest) (all_implied (λ key. key_cmp first.key key ≡ Less) (λ key. meant (first ∷ rest) key ≡ meant rest key) (λ key less. meant_later first rest key less) (keys_of rest) sorted.0) in
+      map_agree (meant (first ∷ rest)) (meant rest) (keys_of rest) (all_implied (λ key. key_cmp first.key key ≡ Less) (λ key. meant (first ∷ rest) key ≡ meant rest key) (λ key less. meant_later first rest key less) (keys_of rest) sorted.0) in
       ap (λ more. (first.key, meaning_of first.value) ∷ more) (own_meanings rest sorted.1 ∙ sym later)
       ∙ ap (λ (one : Key × Meaning). one ∷ map (meant (first ∷ rest)) (keys_of rest)) (sym (meant_first first rest))
 
@@ -86,12 +83,12 @@ module _ {V Meaning : Type 0} (meaning_of : V → Meaning) (nothing : Meaning) w
       → meanings meaning_of left ≡ meanings meaning_of old
   left_meanings old mid left places sorted sorted_left is keys same =
       let kept_keys : AllByRecursion (λ q. is_among key_cmp (all_keys (key_lists (keys_of mid) places)) q ≡ true) (keys_of left) =
-          subst (λ (es : List (Entry V)). AllByRecursion (λ q. is_among key_cmp (all_keys (key_lists (keys_of mid) places)) q ≡ true) (keys_of es)) (sym is) (left_among mid places) in
+      subst (λ (es : List (Entry V)). AllByRecursion (λ q. is_among key_cmp (all_keys (key_lists (keys_of mid) places)) q ≡ true) (keys_of es)) (sym is) (left_among mid places) in
       let as_mid : map (meant left) (keys_of left) ≡ map (meant mid) (keys_of left) =
-          map_agree (meant left) (meant mid) (keys_of left)
-              (all_implied (λ q. is_among key_cmp (all_keys (key_lists (keys_of mid) places)) q ≡ true) (λ q. meant left q ≡ meant mid q)
-                  (λ q among. ap (λ (es : List (Entry V)). meant es q) is ∙ ap (λ (found : Option V). (q, unwrap_or (option_map meaning_of found) nothing)) (left_value mid (keys_of mid) places q among))
-                  (keys_of left) kept_keys) in
+      map_agree (meant left) (meant mid) (keys_of left)
+      (all_implied (λ q. is_among key_cmp (all_keys (key_lists (keys_of mid) places)) q ≡ true) (λ q. meant left q ≡ meant mid q)
+      (λ q among. ap (λ (es : List (Entry V)). meant es q) is ∙ ap (λ (found : Option V). (q, unwrap_or (option_map meaning_of found) nothing)) (left_value mid (keys_of mid) places q among))
+      (keys_of left) kept_keys) in
       own_meanings left sorted_left ∙ as_mid ∙ same_meant old mid (keys_of left) same ∙ ap (map (meant old)) keys ∙ sym (own_meanings old sorted)
 
 -- a key whose value is found is among the keys

@@ -1,5 +1,5 @@
 -- Positions among ascending keys, and the keys there.
-use Rattle.std.proofs.Common.{◌≡◌, ℕ, zero, suc, pos, ◌+◌, ◌<◌, ◌≤◌, Bool, true, false, ◌||◌, eqb, List, [], ◌∷◌, ◌++◌, Some, map, length, get_or, slice_get, slice_index, refl, sym, ap, subst, ◌∙◌, arith, ⊎_elim}
+use Rattle.std.proofs.Common.{◌≡◌, ℕ, zero, suc, pos, ◌<◌, ◌≤◌, Bool, true, false, ◌||◌, eqb, List, [], ◌∷◌, ◌++◌, Some, map, length, get_or, slice_get, refl, sym, ap, subst, ◌∙◌, arith, ⊎_elim}
 use Rattle.std.proofs.lemmas.Bool.{cases_eq, cases_lt, lt-ltb}
 use Rattle.std.proofs.lemmas.Bool.Decides.{nat_tests}
 use Rattle.std.proofs.lemmas.Cmp.{tied_itself}
@@ -10,7 +10,6 @@ use Rattle.std.specs.List.{AllByRecursion, flat_map, list_any}
 use Rattle.std.specs.List.Sorted.{IsStrictlySortedBy}
 use Rattle.std.specs.Option.{option_to_list}
 use Rattle.std.specs.Ordering.{is_eq, nat_cmp}
-use Rattle.std.specs.declared.cmp.Ordering.{Ordering}
 use Rattle.std.specs.declared.cmp.Ordering.TheVariants.{Less, Equal, Greater}
 use Rattle.xf_base.specs.Key.{key_cmp}
 use Rattle.xf_base.specs.KeyOrder.{key_cmp_total}
@@ -61,17 +60,17 @@ eqb-same i = grind (arith, nat_tests)
 pub tied_places : (keys : List Key) → IsStrictlySortedBy key_cmp keys → (i j : ℕ) (d : Key) → i < length keys → j < length keys → is_eq (key_cmp (get_or keys i d) (get_or keys j d)) ≡ eqb i j
 tied_places keys sorted i j d one other =
     ⊎_elim
-        (λ (same : i ≡ j).
-          ap is_eq (ap (λ n. key_cmp (get_or keys i d) (get_or keys n d)) (sym same) ∙ tied_itself key_cmp_total (get_or keys i d))
-          ∙ sym (ap (eqb i) (sym same) ∙ eqb-same i))
-        (λ (differ : i ≡ j → ⊥).
-          ⊎_elim
-              (λ (lt : i < j). ap is_eq (keys_ascend keys sorted i j d lt other) ∙ sym (eqb-less i j lt))
-              (λ (le : j ≤ i).
-                let lt : j < i = omega (arith, le, differ) in
-                ap is_eq (less_back key_cmp_total (get_or keys j d) (get_or keys i d) (keys_ascend keys sorted j i d lt one)) ∙ sym (eqb-more i j lt))
-              (cases_lt i j))
-        (cases_eq i j)
+    (λ (same : i ≡ j).
+    ap is_eq (ap (λ n. key_cmp (get_or keys i d) (get_or keys n d)) (sym same) ∙ tied_itself key_cmp_total (get_or keys i d))
+    ∙ sym (ap (eqb i) (sym same) ∙ eqb-same i))
+    (λ (differ : i ≡ j → ⊥).
+    ⊎_elim
+    (λ (lt : i < j). ap is_eq (keys_ascend keys sorted i j d lt other) ∙ sym (eqb-less i j lt))
+    (λ (le : j ≤ i).
+    let lt : j < i = omega (arith, le, differ) in
+    ap is_eq (less_back key_cmp_total (get_or keys j d) (get_or keys i d) (keys_ascend keys sorted j i d lt one)) ∙ sym (eqb-more i j lt))
+    (cases_lt i j))
+    (cases_eq i j)
 
 -- a key is among those at positions where its own position is one of them
 among_mapped : (keys : List Key) → IsStrictlySortedBy key_cmp keys → (positions : List ℕ) (k : ℕ) (d : Key) → AllByRecursion (λ position. position < length keys) positions → k < length keys → is_among key_cmp (map (λ position. get_or keys position d) positions) (get_or keys k d) ≡ is_listed positions k
@@ -104,17 +103,17 @@ nat_less p q lt = rw (lt-ltb p q lt) refl
 lower_place : (keys : List Key) → IsStrictlySortedBy key_cmp keys → (p q : ℕ) (d : Key) → p < length keys → q < length keys → key_cmp (get_or keys p d) (get_or keys q d) ≡ Less → nat_cmp p q ≡ Less
 lower_place keys sorted p q d one other less =
     ⊎_elim
-        (λ (lt : p < q). nat_less p q lt)
-        (λ (le : q ≤ p).
-          ⊎_elim
-              (λ (same : q ≡ p).
-                let tied : key_cmp (get_or keys p d) (get_or keys q d) ≡ Equal = ap (λ n. key_cmp (get_or keys p d) (get_or keys n d)) same ∙ tied_itself key_cmp_total (get_or keys p d) in
-                absurd cc)
-              (λ (differ : q ≡ p → ⊥).
-                let greater : key_cmp (get_or keys p d) (get_or keys q d) ≡ Greater = less_back key_cmp_total (get_or keys q d) (get_or keys p d) (keys_ascend keys sorted q p d (omega (arith, le, differ)) one) in
-                absurd cc)
-              (cases_eq q p))
-        (cases_lt p q)
+    (λ (lt : p < q). nat_less p q lt)
+    (λ (le : q ≤ p).
+    ⊎_elim
+    (λ (same : q ≡ p).
+    let tied : key_cmp (get_or keys p d) (get_or keys q d) ≡ Equal = ap (λ n. key_cmp (get_or keys p d) (get_or keys n d)) same ∙ tied_itself key_cmp_total (get_or keys p d) in
+    absurd cc)
+    (λ (differ : q ≡ p → ⊥).
+    let greater : key_cmp (get_or keys p d) (get_or keys q d) ≡ Greater = less_back key_cmp_total (get_or keys q d) (get_or keys p d) (keys_ascend keys sorted q p d (omega (arith, le, differ)) one) in
+    absurd cc)
+    (cases_eq q p))
+    (cases_lt p q)
 
 lower_places : (keys : List Key) → IsStrictlySortedBy key_cmp keys → (p : ℕ) (ps : List ℕ) (d : Key) → p < length keys → AllByRecursion (λ position. position < length keys) ps → AllByRecursion (λ y. key_cmp (get_or keys p d) y ≡ Less) (map (λ position. get_or keys position d) ps) → AllByRecursion (λ q. nat_cmp p q ≡ Less) ps
 lower_places keys sorted p [] d one all less = tt
@@ -181,8 +180,8 @@ mapped_within : (test : Key → Bool) (keys : List Key) (positions : List ℕ) (
 mapped_within test keys [] d all held = absurd cc
 mapped_within test keys (p ∷ ps) d all held =
     or_cases (test (get_or keys p d)) (list_any test (map (λ position. get_or keys position d) ps)) held
-        (λ here. any_at test keys p d all.0 here)
-        (λ later. mapped_within test keys ps d all.1 later)
+    (λ here. any_at test keys p d all.0 here)
+    (λ later. mapped_within test keys ps d all.1 later)
 
 -- a key that is among those of some place is among all
 pub among_within : (keys : List Key) (places : List (List ℕ)) (q : Key) → AreWithin (length keys) places → is_among key_cmp (all_keys (key_lists keys places)) q ≡ true → is_among key_cmp keys q ≡ true
@@ -191,5 +190,5 @@ among_within keys (own ∷ rest) q all held =
     let test : Key → Bool = λ own. is_eq (key_cmp q own) in
     let later : List Key = all_keys (key_lists keys rest) in
     or_cases (list_any test (keys_at_positions keys own)) (list_any test later) (sym (list_any-append test (keys_at_positions keys own) later) ∙ held)
-        (λ here. mapped_within test keys own some_key all.0 (sym (ap (list_any test) (keys_within keys own some_key all.0)) ∙ here))
-        (λ there. among_within keys rest q all.1 there)
+    (λ here. mapped_within test keys own some_key all.0 (sym (ap (list_any test) (keys_within keys own some_key all.0)) ∙ here))
+    (λ there. among_within keys rest q all.1 there)

@@ -53,11 +53,11 @@ module _ {V : Type 0} (rank : V → ℤ) where
   with_ranked-map one [] later = refl
   with_ranked-map one (at ∷ ats) later =
       by_order (int_cmp (rank at.1) (rank one.1))
-          (λ less. rw less refl)
-          (λ equal. let before : nat_cmp one.0 at.0 ≡ Less = nat_less one.0 at.0 later.0 in rw (equal, before) refl)
-          (λ greater.
-            let back : int_cmp (rank one.1) (rank at.1) ≡ Less = int_cmp_total.antisymm (rank one.1) (rank at.1) ∙ ap ordering_reverse greater in
-            rw (greater, back) (ap (λ rest. one_rank at ∷ rest) (with_ranked-map one ats later.1)))
+      (λ less. rw less refl)
+      (λ equal. let before : nat_cmp one.0 at.0 ≡ Less = nat_less one.0 at.0 later.0 in rw (equal, before) refl)
+      (λ greater.
+      let back : int_cmp (rank one.1) (rank at.1) ≡ Less = int_cmp_total.antisymm (rank one.1) (rank at.1) ∙ ap ordering_reverse greater in
+      rw (greater, back) (ap (λ rest. one_rank at ∷ rest) (with_ranked-map one ats later.1)))
 
   all-with_ranked : (P : ℕ × V → Type 0) (one : ℕ × V) (ats : List (ℕ × V)) → P one → AllByRecursion P ats → AllByRecursion P (with_ranked (λ at. rank at.1) one ats)
   all-with_ranked P one [] here all = (here, tt)
@@ -106,11 +106,11 @@ module _ {V : Type 0} (rank : V → ℤ) where
       let more = ties-cons rank_cmp one (one_rank (n, v)) (map one_rank (enumerate_from (n + 1) vs)) in
       let rest = ranks_once (n + 1) vs one in
       by_order (nat_cmp one.1 n)
-          (λ less. omega (arith, more, rest, untied_first one n v (ap is_eq less)))
-          (λ equal.
-            let same : one.1 ≡ n = nat_cmp-IsAntisymmetric one.1 n equal in
-            omega (arith, more, none_later one (n + 1) vs (omega (arith, same)), one_at_most (is_eq (rank_cmp one (one_rank (n, v))))))
-          (λ greater. omega (arith, more, rest, untied_first one n v (ap is_eq greater)))
+      (λ less. omega (arith, more, rest, untied_first one n v (ap is_eq less)))
+      (λ equal.
+      let same : one.1 ≡ n = nat_cmp-IsAntisymmetric one.1 n equal in
+      omega (arith, more, none_later one (n + 1) vs (omega (arith, same)), one_at_most (is_eq (rank_cmp one (one_rank (n, v))))))
+      (λ greater. omega (arith, more, rest, untied_first one n v (ap is_eq greater)))
 
 map_after : {X Y Z : Type 0} (f : Y → Z) (g : X → Y) (xs : List X) → map f (map g xs) ≡ map (λ x. f (g x)) xs
 map_after f g [] = refl
@@ -124,7 +124,7 @@ sorted_positions {V} rank entries made sorted same moved up =
     let found : List (ℤ × ℕ) = map plain_rank sorted in
     let moved_ranks : IsPermutation (ranks_at rank entries) found = subst (λ xs. IsPermutation xs found) same (IsPermutation-map plain_rank made sorted moved) in
     let once : AtMostOnce rank_cmp found = λ one.
-        omega (arith, ranks_once value_rank 0 entries one, sum_by-IsPermutation (λ (at : ℤ × ℕ). cond (is_eq (rank_cmp one at)) 1 0) (ranks_at rank entries) found moved_ranks) in
+    omega (arith, ranks_once value_rank 0 entries one, sum_by-IsPermutation (λ (at : ℤ × ℕ). cond (is_eq (rank_cmp one at)) 1 0) (ranks_at rank entries) found moved_ranks) in
     let strict : IsStrictlySortedBy rank_cmp found = strict_from_rising rank_cmp-total found (rising_from_sorted rank_cmp-total plain_rank sorted up) once in
     let ats : List (ℕ × Entry V) = ranked (λ (at : ℕ × Entry V). rank at.1.value) (enumerate_from 0 entries) in
     let all : found ≡ map (λ (at : ℕ × Entry V). (rank at.1.value, at.0)) ats = distinct_keys-from_permutation rank_cmp-total rank_cmp-exact (ranks_at rank entries) found strict moved_ranks ∙ sym (ranked-map value_rank 0 entries) in

@@ -1,5 +1,5 @@
 -- What is left of entries once those are dropped whose positions no place has.
-use Rattle.std.proofs.Common.{◌≡◌, ℕ, ◌<◌, ◌≤◌, Bool, true, false, cond, eqb, not, List, [], ◌∷◌, Option, Some, map, length, get_or, slice_get, slice_index, take, refl, sym, ap, subst, ◌∙◌, arith}
+use Rattle.std.proofs.Common.{◌≡◌, ℕ, ◌<◌, ◌≤◌, Bool, true, false, cond, eqb, not, List, [], ◌∷◌, Some, map, length, get_or, slice_get, slice_index, take, refl, sym, ap, subst, ◌∙◌, arith}
 use Rattle.std.proofs.lemmas.List.{get_or-map, length-map}
 use Rattle.std.proofs.lemmas.Option.{slice_get-map}
 use Rattle.std.specs.List.{AllByRecursion, count_by, filter}
@@ -42,12 +42,12 @@ kept_used {V} entries places marked sorted within room said =
     let many : length keys ≡ length entries = length-map entries (λ (entry : Entry V). entry.key) in
     let marks : length (unused_marks marked) ≡ length marked = length-map marked (λ (number : ℕ). eqb number 0) in
     kept_by (is_placed keys places) (unused_marks marked) entries (omega (arith, room, marks))
-        (λ k d inside.
-          let here : get_or keys k d.key ≡ (get_or entries k d).key = get_or-map (λ (entry : Entry V). entry.key) entries k d d.key inside in
-          let placed : is_among key_cmp (all_keys (key_lists keys places)) (get_or keys k d.key) ≡ is_used places k =
-              among_places keys sorted places k d.key (subst (λ n. AreWithin n places) (sym many) within) (omega (arith, many, inside)) in
-          marks_say places marked said k (omega (arith, inside, room))
-          ∙ ap not (sym (ap (is_among key_cmp (all_keys (key_lists keys places))) (sym here) ∙ placed)))
+    (λ k d inside.
+    let here : get_or keys k d.key ≡ (get_or entries k d).key = get_or-map (λ (entry : Entry V). entry.key) entries k d d.key inside in
+    let placed : is_among key_cmp (all_keys (key_lists keys places)) (get_or keys k d.key) ≡ is_used places k =
+    among_places keys sorted places k d.key (subst (λ n. AreWithin n places) (sym many) within) (omega (arith, many, inside)) in
+    marks_say places marked said k (omega (arith, inside, room))
+    ∙ ap not (sym (ap (is_among key_cmp (all_keys (key_lists keys places))) (sym here) ∙ placed)))
 
 -- an entry that stays stands at its new position
 stays_at : (marks : List Bool) (p : ℕ) → get_or marks p true ≡ false → new_place marks p ≡ Some (count_by not (take p marks))
@@ -66,11 +66,11 @@ moved_keys : {V : Type 0} (entries : List (Entry V)) (places : List (List ℕ)) 
 moved_keys {V} entries places marked numbers within room said renumbered =
     let Stands : ℕ → Type 0 = λ p. slice_get (keys_of (kept (unused_marks marked) entries)) (slice_index numbers p) ≡ slice_get (keys_of entries) p in
     all_both (AllByRecursion (λ p. p < length entries)) (AllByRecursion (λ p. is_used places p ≡ true)) (AllByRecursion Stands)
-        (all_both (λ p. p < length entries) (λ p. is_used places p ≡ true) Stands
-            (λ p inside used.
-              moved_key entries (unused_marks marked) (length entries) numbers renumbered p inside
-                  (marks_say places marked said p (omega (arith, inside, room)) ∙ ap not used)))
-        places within (used_each places (λ p. is_used places p ≡ true) (λ p used. used))
+    (all_both (λ p. p < length entries) (λ p. is_used places p ≡ true) Stands
+    (λ p inside used.
+    moved_key entries (unused_marks marked) (length entries) numbers renumbered p inside
+    (marks_say places marked said p (omega (arith, inside, room)) ∙ ap not used)))
+    places within (used_each places (λ p. is_used places p ≡ true) (λ p used. used))
 
 -- the places have the keys that they had, by their new positions, which are within what is left
 pub same_keys : {V : Type 0} (entries : List (Entry V)) (places : List (List ℕ)) (marked numbers : List ℕ) → AreWithin (length entries) places → length entries ≤ length marked → AreMarked places marked → AreRenumbered (unused_marks marked) (length entries) numbers
@@ -84,5 +84,5 @@ still_within {V} entries places marked numbers within room said renumbered =
     let many : length (keys_of entries) ≡ length entries = length-map entries (λ (entry : Entry V). entry.key) in
     let left : length (keys_of (kept (unused_marks marked) entries)) ≡ length (kept (unused_marks marked) entries) = length-map (kept (unused_marks marked) entries) (λ (entry : Entry V). entry.key) in
     subst (λ n. AreWithin n (map (map (slice_index numbers)) places)) left
-        (renumbered_within (keys_of entries) (keys_of (kept (unused_marks marked) entries)) (slice_index numbers) places
-            (subst (λ n. AreWithin n places) (sym many) within) (moved_keys entries places marked numbers within room said renumbered))
+    (renumbered_within (keys_of entries) (keys_of (kept (unused_marks marked) entries)) (slice_index numbers) places
+    (subst (λ n. AreWithin n places) (sym many) within) (moved_keys entries places marked numbers within room said renumbered))

@@ -1,5 +1,5 @@
 -- Only the contracts of private functions need this file: which entries some place has, by numbers for them.
-use Rattle.std.specs.Prelude.{◌≡◌, ℕ, ◌==◌, ◌<◌, Bool, not, List, Some, if◌then◌else◌, length, map, slice_index}
+use Rattle.std.specs.Prelude.{◌≡◌, ℕ, ◌==◌, ◌<◌, Bool, List, Some, if◌then◌else◌, length, map, slice_index}
 use Rattle.std.specs.List.{list_any}
 use Rattle.xf_base.specs.Gone.{new_place}
 

@@ -125,9 +125,7 @@ fn is_known<V>(entries: &[Entry<V>], key: &Key) -> bool
     requires { IsStrictlySortedBy key_cmp (keys_of entries.now) }
     ensures { result ≡ is_among key_cmp (keys_of entries.now) key.now }
 {
-    entries
-        .binary_search_by(|entry| entry.key.cmp(key))
-        .is_ok()
+    entries.binary_search_by(|entry| entry.key.cmp(key)).is_ok()
 }
 
 /// An entry for each key, with the value of no rows.

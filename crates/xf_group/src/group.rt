@@ -173,7 +173,14 @@ impl<R: Reducer> Group<R> {
         ensures changed { AreChanged R.meaning_of (λ meaning. changed_meaning (R.folding self.old.reducer) (R.undo self.old.reducer) on meaning row.now) (R.IsReady self.old.reducer) R.calls (keys_at self.old place) self.old.entries self.new.entries }
         ensures cost { steps.new ≡ steps.old + length (keys_at self.old place) }
     {
-        change_each(&self.reducer, self.entries.as_mut_slice(), self.places.list(place), row, on, steps);
+        change_each(
+            &self.reducer,
+            self.entries.as_mut_slice(),
+            self.places.list(place),
+            row,
+            on,
+            steps,
+        );
     }
 
     /// Takes the places away that are gone, and the keys that no place has any more. The values of the keys that stay do
@@ -250,10 +257,7 @@ fn ranks_of<R: Reducer, L: Ledger>(
 }
 
 /// The positions of ranks.
-fn positions_of(
-    alloc: Global,
-    ranks: &[(Reverse<i128>, usize)],
-) -> Result<Vec<usize>, OutOfMemory>
+fn positions_of(alloc: Global, ranks: &[(Reverse<i128>, usize)]) -> Result<Vec<usize>, OutOfMemory>
     ensures { IfOk result (λ v. v.items ≡ map (λ at. at.1) ranks.now) }
 {
     let mut positions = Vec::with_capacity(alloc, ranks.len())?;

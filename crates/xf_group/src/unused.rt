@@ -13,7 +13,11 @@ use xf_lists::Lists;
 
 /// Drops the entries whose positions no place has, in order, and renumbers the positions. It takes no memory: `numbers` is
 /// room to count in, as long as the entries at least.
-pub fn drop_unused<V>(entries: &mut Vec<Entry<V>>, places: &mut Lists<usize>, numbers: &mut Vec<usize>)
+pub fn drop_unused<V>(
+    entries: &mut Vec<Entry<V>>,
+    places: &mut Lists<usize>,
+    numbers: &mut Vec<usize>,
+)
 where
     V: Drop,
     requires within { AreWithin (length entries.old.items) places.old }

@@ -1,6 +1,6 @@
 -- The entries of all keys, sorted, and where the old keys stand among them.
 use Rattle.std.proofs.Common.{◌≡◌, List, ◌++◌, map, length, slice_index, Bor, refl, sym, ap, subst, ◌∙◌, arith}
-use Rattle.std.proofs.lemmas.List.{length-append, length-map}
+use Rattle.std.proofs.lemmas.List.{length-map}
 use Rattle.std.specs.List.Sorted.{IsPermutation}
 use Rattle.xf_base.specs.declared.key.Key.{Key}
 use Rattle.xf_group.specs.Fresh.{fresh_keys, new_positions}

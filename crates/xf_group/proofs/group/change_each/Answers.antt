@@ -1,9 +1,8 @@
 -- The next value is as it was, and changes once.
-use Rattle.std.proofs.Common.{◌≡◌, ℕ, ◌+◌, ◌<◌, false, List, length, get_or, take, sym, ap, subst, arith, refl}
+use Rattle.std.proofs.Common.{◌≡◌, ℕ, ◌<◌, length, get_or, take, sym, ap, subst, arith, refl}
 use Rattle.std.proofs.lemmas.List.{get_or_default}
 use Rattle.std.proofs.lemmas.List.Elements.{All-from_recursion}
 use Rattle.xf_group.specs.Changed.{IsChanged, MayChange, changed_meaning}
-use Rattle.xf_group.specs.Used.{is_listed}
 use Rattle.xf_group.specs.declared.entry.Entry.{Entry}
 use Rattle.xf_group.proofs.ChangedEach.{changed_more, not_listed, unchanged_yet}
 use Rattle.xf_group.proofs.group.change_each.Goals as goal
@@ -16,8 +15,8 @@ change_one-requires-clause-may g c =
     let d = c.index-entries-position.result in
     let inside : p < length c.args.entries.now = All-from_recursion (λ position. position < length c.args.entries.now) positions c.requires.within i 0 c.loop-position-test.true in
     let same : (get_or c.loop-position.entries p d).value ≡ (get_or c.args.entries.now p d).value =
-        unchanged_yet g.R.Reducer.meaning_of (λ meaning. changed_meaning (g.R.Reducer.folding c.args.reducer.now) (g.R.Reducer.undo c.args.reducer.now) c.args.on meaning c.args.row.now) (g.R.Reducer.IsReady c.args.reducer.now) g.R.Reducer.calls
-            (take i positions) c.args.entries.now c.loop-position.entries p d c.loop-position.invariant.changed inside (not_listed positions c.requires.ascend i c.loop-position-test.true) in
+    unchanged_yet g.R.Reducer.meaning_of (λ meaning. changed_meaning (g.R.Reducer.folding c.args.reducer.now) (g.R.Reducer.undo c.args.reducer.now) c.args.on meaning c.args.row.now) (g.R.Reducer.IsReady c.args.reducer.now) g.R.Reducer.calls
+    (take i positions) c.args.entries.now c.loop-position.entries p d c.loop-position.invariant.changed inside (not_listed positions c.requires.ascend i c.loop-position-test.true) in
     subst (λ value. MayChange (g.R.Reducer.fits_to c.args.reducer.now) (g.R.Reducer.folding c.args.reducer.now) c.args.on (g.R.Reducer.meaning_of value) c.args.row.now) (sym same) (c.requires.may i d c.loop-position-test.true).0
 
 pub change_one-requires-clause-ready : goal.change_one-requires-clause-ready
@@ -28,8 +27,8 @@ change_one-requires-clause-ready g c =
     let d = c.index-entries-position.result in
     let inside : p < length c.args.entries.now = All-from_recursion (λ position. position < length c.args.entries.now) positions c.requires.within i 0 c.loop-position-test.true in
     let same : (get_or c.loop-position.entries p d).value ≡ (get_or c.args.entries.now p d).value =
-        unchanged_yet g.R.Reducer.meaning_of (λ meaning. changed_meaning (g.R.Reducer.folding c.args.reducer.now) (g.R.Reducer.undo c.args.reducer.now) c.args.on meaning c.args.row.now) (g.R.Reducer.IsReady c.args.reducer.now) g.R.Reducer.calls
-            (take i positions) c.args.entries.now c.loop-position.entries p d c.loop-position.invariant.changed inside (not_listed positions c.requires.ascend i c.loop-position-test.true) in
+    unchanged_yet g.R.Reducer.meaning_of (λ meaning. changed_meaning (g.R.Reducer.folding c.args.reducer.now) (g.R.Reducer.undo c.args.reducer.now) c.args.on meaning c.args.row.now) (g.R.Reducer.IsReady c.args.reducer.now) g.R.Reducer.calls
+    (take i positions) c.args.entries.now c.loop-position.entries p d c.loop-position.invariant.changed inside (not_listed positions c.requires.ascend i c.loop-position-test.true) in
     subst (λ value. g.R.Reducer.IsReady c.args.reducer.now value c.args.row.now) (sym same) (c.requires.may i d c.loop-position-test.true).1
 
 pub loop-position-preserved : goal.loop-position-preserved

@@ -1,5 +1,5 @@
 -- The rank of one entry more, at a step.
-use Rattle.std.proofs.Common.{◌≡◌, ℤ, refl, ap, ◌∙◌, arith, rules}
+use Rattle.std.proofs.Common.{ℤ, refl, ap, ◌∙◌, arith, rules}
 use Rattle.std.proofs.lemmas.Int.{to_z-of_z}
 use mir.Syntax.{w128}
 use mir.Val.{SFits}

@@ -1,5 +1,5 @@
 -- Each comparison halves the interval: what is left of it is at most half, and on the side of the key.
-use Rattle.std.proofs.Common.{◌≡◌, ℕ, ◌+◌, ◌-◌, ◌*◌, ◌/◌, ◌^◌, ◌<◌, ◌≤◌, List, length, get_or, sym, ap, subst, ◌∙◌, arith}
+use Rattle.std.proofs.Common.{◌≡◌, ℕ, ◌+◌, ◌-◌, ◌/◌, ◌^◌, ◌<◌, ◌≤◌, List, length, get_or, sym, ap, subst, ◌∙◌, arith}
 use Rattle.std.proofs.lemmas.List.{get_or_default}
 use Rattle.std.specs.declared.cmp.Ordering.{Ordering}
 use Rattle.std.specs.declared.cmp.Ordering.TheVariants.{Less, Equal, Greater}
@@ -71,7 +71,7 @@ returns-in-Equal-clause-found g c =
 pub returns-in-Equal-clause-cost : goal.returns-in-Equal-clause-cost
 returns-in-Equal-clause-cost g c =
     subst (λ n. c.tick.new.self ≤ c.args.steps.now + n) (digit_count-is (length c.args.entries.now))
-        (some_cost c.tick.new.self c.loop-low.steps c.loop-low.low c.loop-low.high (c.args.steps.now + digit_count (length c.args.entries.now)) c.loop-low-test.true (omega arith) c.loop-low.invariant.cost c.tick.ensures)
+    (some_cost c.tick.new.self c.loop-low.steps c.loop-low.low c.loop-low.high (c.args.steps.now + digit_count (length c.args.entries.now)) c.loop-low-test.true (omega arith) c.loop-low.invariant.cost c.tick.ensures)
 
 pub returns-clause-found : goal.returns-clause-found
 returns-clause-found g c =

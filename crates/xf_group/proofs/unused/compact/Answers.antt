@@ -1,5 +1,5 @@
 -- One entry more goes to the front, or is left behind.
-use Rattle.std.proofs.Common.{◌≡◌, ◌≢◌, ℕ, ◌+◌, ◌<◌, ◌≤◌, ◌++◌, Bool, true, false, cond, eqb, not, List, length, get_or, set, take, drop, map, refl, sym, ap, ◌∙◌, arith, get_or-set_other, get_or-set_same, ⊎_elim}
+use Rattle.std.proofs.Common.{◌≡◌, ◌≢◌, ℕ, ◌+◌, ◌<◌, ◌≤◌, Bool, true, false, eqb, not, List, length, get_or, set, take, sym, ap, ◌∙◌, arith, get_or-set_other, get_or-set_same, ⊎_elim}
 use Rattle.std.proofs.lemmas.Bool.{cases_eq, false≢true}
 use Rattle.std.proofs.lemmas.Bool.Decides.{nat_tests}
 use Rattle.std.proofs.lemmas.List.{get_or-map, length-map}
@@ -26,20 +26,20 @@ placed_more : (marks : List Bool) (old new : List ℕ) (p count : ℕ) → new �
     → (k : ℕ) → k < p + 1 → get_or marks k true ≡ false → get_or new k 0 ≡ count_by not (take k marks)
 placed_more marks old new p count changed inside counted placed k before stays =
     ⊎_elim
-        (λ (same : k ≡ p). rw (changed, same) (get_or-set_same old p count 0 inside ∙ counted))
-        (λ (other : k ≡ p → ⊥).
-          let earlier : k < p = omega (arith, before, other) in
-          rw changed (get_or-set_other old p k count 0 other ∙ placed k earlier stays))
-        (cases_eq k p)
+    (λ (same : k ≡ p). rw (changed, same) (get_or-set_same old p count 0 inside ∙ counted))
+    (λ (other : k ≡ p → ⊥).
+    let earlier : k < p = omega (arith, before, other) in
+    rw changed (get_or-set_other old p k count 0 other ∙ placed k earlier stays))
+    (cases_eq k p)
 
 placed_past : (marks : List Bool) (old : List ℕ) (p : ℕ) → get_or marks p true ≡ true
     → ((k : ℕ) → k < p → get_or marks k true ≡ false → get_or old k 0 ≡ count_by not (take k marks))
     → (k : ℕ) → k < p + 1 → get_or marks k true ≡ false → get_or old k 0 ≡ count_by not (take k marks)
 placed_past marks old p gone placed k before stays =
     ⊎_elim
-        (λ (same : k ≡ p). absurd (false≢true (sym stays ∙ ap (λ n. get_or marks n true) same ∙ gone)))
-        (λ (other : k ≡ p → ⊥). let earlier : k < p = omega (arith, before, other) in placed k earlier stays)
-        (cases_eq k p)
+    (λ (same : k ≡ p). absurd (false≢true (sym stays ∙ ap (λ n. get_or marks n true) same ∙ gone)))
+    (λ (other : k ≡ p → ⊥). let earlier : k < p = omega (arith, before, other) in placed k earlier stays)
+    (cases_eq k p)
 
 later_same : (old new : List ℕ) (p count : ℕ) → new ≡ set old p count → (k : ℕ) → p + 1 ≤ k → get_or new k 0 ≡ get_or old k 0
 later_same old new p count changed k after = let other : k ≢ p = omega (arith, after) in rw changed (get_or-set_other old p k count 0 other)

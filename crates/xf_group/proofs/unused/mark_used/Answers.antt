@@ -1,5 +1,5 @@
 -- One place more marks its positions.
-use Rattle.std.proofs.Common.{◌≡◌, ℕ, ◌+◌, ◌<◌, Bool, true, false, ◌||◌, cond, List, [], ◌∷◌, ◌++◌, Some, length, get_or, slice_get, take, refl, sym, ap, ◌∙◌, arith}
+use Rattle.std.proofs.Common.{◌≡◌, ℕ, ◌+◌, ◌<◌, Bool, true, false, ◌||◌, cond, List, [], ◌∷◌, Some, length, get_or, slice_get, take, refl, sym, ap, ◌∙◌, arith}
 use Rattle.std.proofs.lemmas.List.{take_more}
 use Rattle.std.proofs.lemmas.List.Folds.{list_any-append}
 use Rattle.std.proofs.lemmas.Option.{get_or_from_slice_get, slice_get_within}
@@ -28,8 +28,8 @@ pub loop-place-preserved : goal.loop-place-preserved
 loop-place-preserved c = record {
   same = omega arith;
   marked = λ k inside.
-    let within : k < length c.loop-place.numbers = omega arith in
-    marked_more (is_used (take c.loop-place.place c.args.places.now) k) (is_listed c.list.result.now k) (get_or c.loop-place.numbers k 0) (get_or c.mark_each.new.numbers k 0)
-        (c.mark_each.ensures k within) (c.loop-place.invariant.marked k within)
-    ∙ sym (ap (λ b. cond b 1 0) (used_more c.args.places.now c.loop-place.place c.list.result.now k c.list.ensures));
+      let within : k < length c.loop-place.numbers = omega arith in
+      marked_more (is_used (take c.loop-place.place c.args.places.now) k) (is_listed c.list.result.now k) (get_or c.loop-place.numbers k 0) (get_or c.mark_each.new.numbers k 0)
+      (c.mark_each.ensures k within) (c.loop-place.invariant.marked k within)
+      ∙ sym (ap (λ b. cond b 1 0) (used_more c.args.places.now c.loop-place.place c.list.result.now k c.list.ensures));
 }

@@ -1,12 +1,11 @@
 -- With the new places the group is a group; without memory it is the one that it was.
-use Rattle.std.proofs.Common.{◌≡◌, ℕ, ◌<◌, ◌≤◌, ◌++◌, true, false, List, Ok, Err, OnOk, Result, length, take, sym, ap, subst, ◌∙◌, arith}
+use Rattle.std.proofs.Common.{◌≡◌, ℕ, ◌<◌, ◌++◌, false, List, Ok, Err, OnOk, Result, length, take, sym, ap, subst, ◌∙◌, arith}
 use Rattle.std.proofs.lemmas.Bool.{true≢false}
-use Rattle.std.specs.List.{AllByRecursion, filter}
+use Rattle.std.specs.List.{AllByRecursion}
 use Rattle.std.specs.List.Sorted.{IsStrictlySortedBy}
 use Rattle.std.specs.Result.{is_err}
 use Rattle.xf_base.specs.Key.{key_cmp}
-use Rattle.xf_base.specs.declared.key.Key.{Key}
-use Rattle.xf_group.specs.Admitted.{SameMeanings, StayReady}
+use Rattle.xf_group.specs.Admitted.{StayReady}
 use Rattle.xf_group.specs.Group.{Grouped, IsGroup, keys_in, meanings, meanings_for}
 use Rattle.xf_group.specs.Held.{AreWithin, grouped, key_lists, keys_of}
 use Rattle.xf_group.specs.declared.entry.Entry.{Entry}
@@ -62,7 +61,7 @@ returns-then-is_err-clause-kept g c =
     let left = c.drop_unused.new.entries.items in
     let lists : key_lists (keys_of mid) cut ≡ key_lists (keys_of old) places = cut_lists old mid places c.enter-entered.new.places cut c.len-count.result c.len-count.ensures c.truncate.ensures c.enter-entered.ensures.begun in
     subst (λ (group : Grouped g.row.R.Denot g.row.R-Value.Denot). StayReady (g.R.Reducer.IsReady group.reducer) group.entries left) view
-        (left_ready (g.R.Reducer.IsReady c.self.inside.reducer) old mid left cut c.drop_unused.ensures.entries (c.self.invariant.group.keys ∙ ap keys_in (sym lists)) c.enter-entered.ensures.kept)
+    (left_ready (g.R.Reducer.IsReady c.self.inside.reducer) old mid left cut c.drop_unused.ensures.entries (c.self.invariant.group.keys ∙ ap keys_in (sym lists)) c.enter-entered.ensures.kept)
 
 pub returns-then-is_err-clause-same_meanings : goal.returns-then-is_err-clause-same_meanings
 returns-then-is_err-clause-same_meanings g c =
@@ -76,9 +75,9 @@ returns-then-is_err-clause-same_meanings g c =
     let lists : key_lists (keys_of mid) cut ≡ key_lists (keys_of old) places = cut_lists old mid places more cut c.len-count.result c.len-count.ensures c.truncate.ensures c.enter-entered.ensures.begun in
     let sorted : IsStrictlySortedBy key_cmp (keys_of old) = keys_sorted c.self.inside.reducer old places c.self.invariant.group in
     let keys : keys_of left ≡ keys_of old =
-        ap (λ (es : List (Entry g.row.R-Value.Denot)). keys_of es) c.drop_unused.ensures.entries
-        ∙ left_keys mid cut c.enter-entered.ensures.sorted (cut_within (length mid) more cut c.len-count.result c.truncate.ensures c.enter-entered.ensures.within)
-        ∙ ap keys_in lists ∙ sym c.self.invariant.group.keys in
+    ap (λ (es : List (Entry g.row.R-Value.Denot)). keys_of es) c.drop_unused.ensures.entries
+    ∙ left_keys mid cut c.enter-entered.ensures.sorted (cut_within (length mid) more cut c.len-count.result c.truncate.ensures c.enter-entered.ensures.within)
+    ∙ ap keys_in lists ∙ sym c.self.invariant.group.keys in
     left_meanings g.R.Reducer.meaning_of (g.R.Reducer.folding c.self.inside.reducer).initial old mid left cut sorted (subst (IsStrictlySortedBy key_cmp) (sym keys) sorted) c.drop_unused.ensures.entries keys c.enter-entered.ensures.meanings
     ∙ ap (λ (group : Grouped g.row.R.Denot g.row.R-Value.Denot). meanings g.R.Reducer.meaning_of group.entries) view
 
@@ -102,9 +101,9 @@ returns-clause-meanings g c =
     let new = c.enter-entered.new.entries.items in
     let fine : is_err c.enter-entered.result ≡ false = sym c.if-is_err.ensures.value in
     let group : IsGroup (grouped c.self.inside.reducer new c.enter-entered.new.places) =
-        joined_group c.self.inside.reducer old new c.self.inside.places c.enter-entered.new.places c.args.keys.now c.self.invariant.group c.requires.ascend
-            (on_ok c.enter-entered.result (keys_of new ≡ distinct_keys key_cmp (keys_of old ++ all_keys c.args.keys.now)) fine c.enter-entered.ensures.keys)
-            (on_ok c.enter-entered.result (key_lists (keys_of new) c.enter-entered.new.places ≡ key_lists (keys_of old) c.self.inside.places ++ c.args.keys.now) fine c.enter-entered.ensures.places) in
+    joined_group c.self.inside.reducer old new c.self.inside.places c.enter-entered.new.places c.args.keys.now c.self.invariant.group c.requires.ascend
+    (on_ok c.enter-entered.result (keys_of new ≡ distinct_keys key_cmp (keys_of old ++ all_keys c.args.keys.now)) fine c.enter-entered.ensures.keys)
+    (on_ok c.enter-entered.result (key_lists (keys_of new) c.enter-entered.new.places ≡ key_lists (keys_of old) c.self.inside.places ++ c.args.keys.now) fine c.enter-entered.ensures.places) in
     entered_meanings g.R.Reducer.meaning_of (g.R.Reducer.folding c.self.inside.reducer).initial old new (key_lists (keys_of new) c.enter-entered.new.places) c.enter-entered.ensures.sorted group.keys c.enter-entered.ensures.meanings
     ∙ ap (λ (whole : Grouped g.row.R.Denot g.row.R-Value.Denot). meanings_for g.R.Reducer.meaning_of (g.R.Reducer.folding whole.reducer).initial whole.entries (key_lists (keys_of new) c.enter-entered.new.places)) view
 

@@ -1,5 +1,5 @@
 -- What is left of a group without the places that are gone.
-use Rattle.std.proofs.Common.{◌≡◌, ℕ, ◌<◌, ◌≤◌, List, length, sym, ap, subst, ◌∙◌, arith}
+use Rattle.std.proofs.Common.{◌≡◌, ℕ, ◌<◌, List, length, sym, ap, subst, ◌∙◌, arith}
 use Rattle.std.specs.List.{AllByRecursion, filter}
 use Rattle.xf_base.specs.Gone.{kept}
 use Rattle.xf_base.specs.Key.{key_cmp}
@@ -18,7 +18,7 @@ use Rattle.xf_model.specs.Laws.{is_among}
 pub drop_unused-requires-clause-within : goal.drop_unused-requires-clause-within
 drop_unused-requires-clause-within g c =
     subst (AreWithin (length c.self.inside.entries.items)) (sym c.retain.ensures)
-        (all-kept (AllByRecursion (λ position. position < length c.self.inside.entries.items)) c.args.gone.now c.self.inside.places c.self.invariant.within)
+    (all-kept (AllByRecursion (λ position. position < length c.self.inside.entries.items)) c.args.gone.now c.self.inside.places c.self.invariant.within)
 
 pub drop_unused-requires-clause-sorted : goal.drop_unused-requires-clause-sorted
 drop_unused-requires-clause-sorted g c = keys_sorted c.self.inside.reducer c.self.inside.entries.items c.self.inside.places c.self.invariant.group
