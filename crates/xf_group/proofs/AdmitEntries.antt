@@ -16,7 +16,7 @@ use Rattle.xf_base.specs.declared.cell.Cell.{Cell}
 use Rattle.xf_base.specs.declared.key.Key.{Key}
 use Rattle.xf_group.specs.Admitted.{IsReadyAt, SameMeanings, StayReady}
 use Rattle.xf_group.specs.Fresh.{AreKept}
-use Rattle.xf_group.specs.Group.{is_entry_of, meaning_at, meanings, value_at}
+use Rattle.xf_group.specs.Group.{is_entry_of, meaning_at, meanings}
 use Rattle.xf_group.specs.Held.{keys_of}
 use Rattle.xf_group.specs.declared.entry.Entry.{Entry}
 use Rattle.xf_group.proofs.AdmitFresh.{equal_from_test, list_any-map}
@@ -179,8 +179,8 @@ key_at_position {Value} (first ∷ entries) key place found =
     let same : key ≡ (get_or (first ∷ entries) place first).key = key_cmp-equal key (get_or (first ∷ entries) place first).key (equal_from_test (key_cmp key (get_or (first ∷ entries) place first).key) at.1) in (
       at.0,
       slice_get-map (λ (entry : Entry Value). entry.key) (first ∷ entries) place
-      ∙ ap (option_map (λ (entry : Entry Value). entry.key)) (slice_get-get_or (first ∷ entries) place first at.0)
-      ∙ ap Some (sym same),
+          ∙ ap (option_map (λ (entry : Entry Value). entry.key)) (slice_get-get_or (first ∷ entries) place first at.0)
+          ∙ ap Some (sym same),
     )
 
 -- the entry at a place with another value

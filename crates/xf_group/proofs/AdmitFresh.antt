@@ -1,5 +1,5 @@
 -- Fresh keys: found by halves, sorted, each once, and where the old keys stand between them.
-use Rattle.std.proofs.Common.{◌≡◌, ℕ, zero, suc, ◌+◌, ◌-◌, ◌<◌, ◌≤◌, Bool, true, false, ◌||◌, cond, not, List, [], ◌∷◌, ◌++◌, map, length, get_or, take, drop, Option, Some, None, slice_get, Result, Ok, Err, is_ok, refl, sym, ap, ◌∙◌, arith, ⊎_elim}
+use Rattle.std.proofs.Common.{◌≡◌, ℕ, zero, suc, ◌+◌, ◌<◌, ◌≤◌, Bool, true, false, ◌||◌, cond, List, [], ◌∷◌, ◌++◌, map, length, get_or, take, drop, Result, Ok, Err, is_ok, refl, sym, ap, ◌∙◌, arith, ⊎_elim}
 use Rattle.std.proofs.lemmas.Bool.{cases_lt, true≢false}
 use Rattle.std.proofs.lemmas.Cmp.{on_total}
 use Rattle.std.proofs.Common.{take-add}
@@ -7,14 +7,13 @@ use Rattle.std.proofs.lemmas.List.{drop-map, drop_more, length-drop, length-map,
 use Rattle.std.proofs.lemmas.List.Filters.{dedup_is}
 use Rattle.std.proofs.lemmas.List.Folds.{list_any_at, list_any_none}
 use Rattle.std.proofs.lemmas.List.Kept.{IsStrictlySortedBy-dedup}
-use Rattle.std.proofs.lemmas.List.Sorted.{IsPermutation-map, list_any-IsPermutation, searchable_from_sorted}
-use Rattle.std.proofs.lemmas.Option.{get_or_from_slice_get, none-some, same_Some, slice_get-get_or}
+use Rattle.std.proofs.lemmas.List.Sorted.{list_any-IsPermutation, searchable_from_sorted}
 use Rattle.std.specs.Cmp.{IsTotalOrder}
 use Rattle.std.specs.FinMap.{IsAntisymmetric}
-use Rattle.std.specs.List.{AllByRecursion, count_by, dedup, dedup_from, enumerate_from, list_any, prefix_len}
+use Rattle.std.specs.List.{AllByRecursion, dedup, dedup_from, enumerate_from, list_any, prefix_len}
 use Rattle.std.specs.List.Retain.{DiffersFromLast, IsFiltered}
-use Rattle.std.specs.List.Sorted.{IsBinarySearchResult, IsPermutation, IsSearchInRange, IsSorted, IsSortedBy, IsStrictlySortedBy}
-use Rattle.std.specs.Ordering.{eq_by_cmp, is_eq, is_lt, on, ordering_reverse}
+use Rattle.std.specs.List.Sorted.{IsBinarySearchResult, IsPermutation, IsSearchInRange, IsSorted, IsStrictlySortedBy}
+use Rattle.std.specs.Ordering.{is_eq, is_lt, on, ordering_reverse}
 use Rattle.std.specs.declared.cmp.Ordering.{Ordering}
 use Rattle.std.specs.declared.cmp.Ordering.TheVariants.{Less, Equal, Greater}
 use Rattle.xf_base.specs.Key.{key_cmp}
@@ -24,7 +23,7 @@ use Rattle.xf_group.specs.Fresh.{count_below, new_position, new_positions}
 use Rattle.xf_model.specs.Group.{distinct_keys}
 use Rattle.xf_model.specs.Laws.{is_among}
 use Rattle.xf_model.proofs.AscendingKeys.{all_implies, by_order, same_from_ties, sorted-distinct_keys, ties-distinct_keys}
-use Rattle.xf_group.proofs.AdmitOrder.{all_at, below-cons, by_test, none_below}
+use Rattle.xf_group.proofs.AdmitOrder.{below-cons, by_test, none_below}
 
 -- ---- a search by halves
 
@@ -185,8 +184,8 @@ passed_more {Key} {cmp} order keys fresh position before more key sorted sorted_
     let later = all_implies (λ other. AllByRecursion (λ k. cmp other k ≡ Less) (key ∷ left)) (λ other. AllByRecursion (λ k. cmp other k ≡ Less) left) (λ other all. all.1) (take before fresh) begun in
     let rest : IsStrictlySortedBy cmp (key ∷ left) = rw next at (sorted-drop cmp position keys sorted) in
     let front = all_implies (λ other. is_lt (cmp other key) ≡ true) (λ other. AllByRecursion (λ k. cmp other k ≡ Less) left)
-        (λ other test. all_implies (λ k. cmp key k ≡ Less) (λ k. cmp other k ≡ Less) (λ k above. order.trans other key k (less_from_test (cmp other key) test) above) left rest.0)
-        (take (prefix_len (λ other. is_lt (cmp other key)) (drop before fresh)) (drop before fresh)) (front_passes (λ other. is_lt (cmp other key)) (drop before fresh)) in (
+    (λ other test. all_implies (λ k. cmp key k ≡ Less) (λ k. cmp other k ≡ Less) (λ k above. order.trans other key k (less_from_test (cmp other key) test) above) left rest.0)
+    (take (prefix_len (λ other. is_lt (cmp other key)) (drop before fresh)) (drop before fresh)) (front_passes (λ other. is_lt (cmp other key)) (drop before fresh)) in (
       below_at_front order key fresh sorted_fresh ∙ prefix_on (λ other. is_lt (cmp other key)) before fresh within own ∙ ap (λ n. before + n) (sym counted),
       rw (take_on before more fresh, counted) (all-append (λ other. AllByRecursion (λ k. cmp other k ≡ Less) left) (take before fresh) _ later front),
     )

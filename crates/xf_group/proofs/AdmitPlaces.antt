@@ -1,8 +1,7 @@
 -- Places as lists of positions: what keys they have when the keys move, and with one place more.
-use Rattle.std.proofs.Common.{◌≡◌, ℕ, ◌+◌, ◌<◌, List, [], ◌∷◌, ◌++◌, map, length, Some, slice_get, refl, sym, ap, ap₂, ◌∙◌, arith, ⊎_elim, append-nil}
+use Rattle.std.proofs.Common.{◌≡◌, ℕ, ◌<◌, List, [], ◌∷◌, ◌++◌, length, Some, slice_get, ap, ◌∙◌}
 use Rattle.std.proofs.lemmas.List.{map-append}
 use Rattle.std.proofs.lemmas.List.Concat.{flat_map-append}
-use Rattle.std.proofs.lemmas.Option.{slice_get_cases, slice_get_within}
 use Rattle.std.specs.List.{AllByRecursion}
 use Rattle.std.specs.Option.{option_to_list}
 use Rattle.xf_base.specs.declared.key.Key.{Key}
@@ -17,8 +16,8 @@ Stand keys all move = (place : ℕ) → place < length keys → slice_get all (m
 pub places_stand : (keys all : List Key) (move : ℕ → ℕ) → Stand keys all move → (places : List (List ℕ)) → AreWithin (length keys) places → AllByRecursion (AllByRecursion (λ position. slice_get all (move position) ≡ slice_get keys position)) places
 places_stand keys all move stand places within =
     all_then (AllByRecursion (λ position. position < length keys)) (AllByRecursion (λ position. slice_get all (move position) ≡ slice_get keys position))
-        (λ positions inside. all_then (λ position. position < length keys) (λ position. slice_get all (move position) ≡ slice_get keys position) stand positions inside)
-        places within
+    (λ positions inside. all_then (λ position. position < length keys) (λ position. slice_get all (move position) ≡ slice_get keys position) stand positions inside)
+    places within
 
 -- one position more has one key more
 pub one_position_more : (keys : List Key) (positions : List ℕ) (position : ℕ) (key : Key) → slice_get keys position ≡ Some key → keys_at_positions keys (positions ++ position ∷ []) ≡ keys_at_positions keys positions ++ key ∷ []

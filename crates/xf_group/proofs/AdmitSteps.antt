@@ -1,11 +1,10 @@
 -- Steps of the loops that enter places: one key more, and one place more.
-use Rattle.std.proofs.Common.{◌≡◌, ℕ, zero, suc, ◌+◌, ◌*◌, ◌<◌, ◌≤◌, Bool, true, List, [], ◌∷◌, ◌++◌, map, length, get_or, take, Some, slice_get, append_assoc, add-mul, mul-add, refl, sym, ap, subst, ◌∙◌, arith}
+use Rattle.std.proofs.Common.{◌≡◌, ℕ, ◌+◌, ◌*◌, ◌<◌, ◌≤◌, true, List, [], ◌∷◌, ◌++◌, length, get_or, take, Some, slice_get, append_assoc, add-mul, mul-add, sym, ap, subst, ◌∙◌, arith}
 use Rattle.std.proofs.lemmas.List.{length-map, length-take, take-append-le, take_all, take_more}
 use Rattle.std.proofs.lemmas.List.Elements.{All-from_recursion}
 use Rattle.std.proofs.lemmas.List.Sums.{sum_by_more}
 use Rattle.std.proofs.lemmas.Option.{slice_get_within}
 use Rattle.std.specs.List.{AllByRecursion, AllZip, sum_by}
-use Rattle.std.specs.List.Sorted.{IsStrictlySortedBy}
 use Rattle.xf_base.specs.Key.{key_cmp}
 use Rattle.xf_base.specs.declared.cell.Cell.{Cell}
 use Rattle.xf_base.specs.declared.key.Key.{Key}
@@ -49,7 +48,7 @@ pub ready_step : {Value : Type 0} (IsReady : Value → List Cell → Type 0) (ol
 ready_step {Value} IsReady old new row keys place key stay within is so_far here =
     let more : take (place + 1) keys ≡ take place keys ++ key ∷ [] = take_more keys place key within ∙ ap (λ k. take place keys ++ k ∷ []) (sym is) in
     subst (AllByRecursion (λ one. IsReadyAt IsReady new one row)) (sym more)
-        (all_more (λ one. IsReadyAt IsReady new one row) (take place keys) key (all_then (λ one. IsReadyAt IsReady old one row) (λ one. IsReadyAt IsReady new one row) (λ one ready. stay one row ready) (take place keys) so_far) here)
+    (all_more (λ one. IsReadyAt IsReady new one row) (take place keys) key (all_then (λ one. IsReadyAt IsReady old one row) (λ one. IsReadyAt IsReady new one row) (λ one ready. stay one row ready) (take place keys) so_far) here)
 
 pub cost_step : (cost count before now start : ℕ) → now ≤ before + cost → before ≤ start + cost * count → now ≤ start + cost * (count + 1)
 cost_step cost count before now start step so_far = let more : cost * (count + 1) ≡ cost * count + cost = grind arith in omega (arith, step, so_far, more)
@@ -83,7 +82,7 @@ ready_places_step {Value} IsReady old new rows keys place row own stay within ea
     let Ready : List (Entry Value) → List Cell → List Key → Type 0 = λ entries row own. AllByRecursion (λ key. IsReadyAt IsReady entries key row) own in
     let kept : AllZip (Ready new) (take place rows) (take place keys) = zip_then (Ready old) (Ready new) (λ row own all. all_then (λ key. IsReadyAt IsReady old key row) (λ key. IsReadyAt IsReady new key row) (λ key ready. stay key row ready) own all) (take place rows) (take place keys) so_far in
     subst (λ rs. AllZip (Ready new) rs (take (place + 1) keys)) (sym (more_read rows place row within is_row))
-        (subst (AllZip (Ready new) (take place rows ++ row ∷ [])) (sym (more_read keys place own (omega (arith, within, each)) is_own)) (zip_more (Ready new) (take place rows) (take place keys) row own kept here))
+    (subst (AllZip (Ready new) (take place rows ++ row ∷ [])) (sym (more_read keys place own (omega (arith, within, each)) is_own)) (zip_more (Ready new) (take place rows) (take place keys) row own kept here))
 
 pub places_step : (old new : List Key) (begun : List (List Key)) (places : List (List ℕ)) (positions : List ℕ) (keys : List (List Key)) (place : ℕ) (own : List Key) → new ≡ old → place < length keys → own ≡ get_or keys place own → key_lists old places ≡ begun ++ take place keys → keys_at_positions new positions ≡ own → key_lists new (places ++ positions ∷ []) ≡ begun ++ take (place + 1) keys
 places_step old new begun places positions keys place own same within is so_far here =
@@ -109,7 +108,7 @@ pub cost_places_step : (first new : ℕ) (keys : List (List Key)) (place : ℕ) 
 cost_places_step first new keys place own before now start same within is step so_far =
     let more : sum_by length (take (place + 1) keys) ≡ sum_by length (take place keys) + length own = sum_by_more length keys place own within ∙ ap (λ o. sum_by length (take place keys) + length o) (sym is) in
     subst (λ sum. now ≤ start + digits first * sum) (sym more)
-        (cost_more (digits first) (sum_by length (take place keys)) (length own) before now start (subst (λ n. now ≤ before + digits n * length own) same step) so_far)
+    (cost_more (digits first) (sum_by length (take place keys)) (length own) before now start (subst (λ n. now ≤ before + digits n * length own) same step) so_far)
 
 pub cost_places_end : (first new : ℕ) (keys : List (List Key)) (place now start : ℕ) → new ≡ first → length keys ≤ place → now ≤ start + digits first * sum_by length (take place keys) → now ≤ start + digits new * sum_by length keys
 cost_places_end first new keys place now start same end bound = cost_digits first new (sum_by length keys) (sum_by length (take place keys)) now start same (ap (sum_by length) (take_all place keys end)) bound

@@ -1,5 +1,5 @@
 -- The keys first, then the places.
-use Rattle.std.proofs.Common.{◌≡◌, ◌++◌, length, take, sum_by, sym, ap, subst, ◌∙◌, arith}
+use Rattle.std.proofs.Common.{◌++◌, length, take, sum_by, sym, ap, subst, ◌∙◌, arith}
 use Rattle.std.proofs.lemmas.List.{length-map}
 use Rattle.std.proofs.lemmas.Result.{on_ok_weaker}
 use Rattle.std.specs.List.Sorted.{IsStrictlySortedBy}
@@ -27,10 +27,10 @@ returns g c =
       ready = placed.ready;
       cost = on_ok_weaker result (λ bound. cost_slack (digits (length new)) (sum_by length c.args.keys.now) c.enter_places.new.steps c.args.steps.now bound) placed.cost;
       begun =
-      ap (λ n. key_lists (keys_of new) (take n c.enter_places.new.places)) (sym keyed.each)
-      ∙ ap (key_lists (keys_of new)) placed.begun
-      ∙ ap (λ keys. key_lists keys c.enter_keys.new.places) placed.keys
-      ∙ keyed.places;
+          ap (λ n. key_lists (keys_of new) (take n c.enter_places.new.places)) (sym keyed.each)
+          ∙ ap (key_lists (keys_of new)) placed.begun
+          ∙ ap (λ keys. key_lists keys c.enter_keys.new.places) placed.keys
+          ∙ keyed.places;
       meanings = λ key. same_meanings_from_equal g.R.Reducer.meaning_of (g.R.Reducer.folding c.args.reducer.now).initial between new placed.meanings key ∙ keyed.meanings key;
       kept = λ key row ready. placed.kept key row (keyed.kept key row ready);
       sorted = subst (IsStrictlySortedBy key_cmp) (sym placed.keys) keyed.sorted;

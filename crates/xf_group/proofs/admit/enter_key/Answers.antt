@@ -1,5 +1,5 @@
 -- The key's entry is found, and its value alone changes.
-use Rattle.std.proofs.Common.{◌≡◌, ◌<◌, true, length, slice_get, sym, ap, ◌∙◌, rules, arith}
+use Rattle.std.proofs.Common.{◌<◌, length, slice_get, sym, ap, ◌∙◌, rules}
 use Rattle.std.proofs.lemmas.Bool.{true≢false}
 use Rattle.xf_group.proofs.AdmitEntries.{key_at_position, none_at_position, prepared_kept, prepared_ready}
 use Rattle.xf_group.proofs.admit.enter_key.Goals as goal

@@ -40,4 +40,4 @@ returns-clause-cost g c =
     let IsReady = g.R.Reducer.IsReady c.args.reducer.now in
     let end : c.loop-key.key-index ≡ length c.args.keys.now = omega (arith, c.loop-key-test.false, c.loop-key.auto.key-index-end) in
     cost_digits (length c.args.entries.now) (length c.loop-key.entries) (length c.args.keys.now) c.loop-key.key-index c.loop-key.steps c.args.steps.now
-        (kept_length meaning_of IsReady c.args.entries.now c.loop-key.entries c.loop-key.invariant.kept) end c.loop-key.invariant.cost
+    (kept_length meaning_of IsReady c.args.entries.now c.loop-key.entries c.loop-key.invariant.kept) end c.loop-key.invariant.cost

@@ -1,7 +1,7 @@
 -- One place more.
-use Rattle.std.proofs.Common.{◌≡◌, ◌++◌, length, take, drop, take_at, sym, subst, ◌∙◌, arith}
+use Rattle.std.proofs.Common.{◌≡◌, ◌++◌, length, take, drop, take_at, ◌∙◌, arith}
 use Rattle.xf_group.specs.Fresh.{AreKept}
-use Rattle.xf_group.specs.Held.{AreWithin, key_lists, keys_of}
+use Rattle.xf_group.specs.Held.{key_lists, keys_of}
 use Rattle.xf_group.proofs.AdmitEntries.{kept_on}
 use Rattle.xf_group.proofs.AdmitSteps.{begun_step, cost_places_end, cost_places_step, kept_length, places_step, ready_places_step, within_places_step}
 use Rattle.xf_group.proofs.admit.enter_places.Goals as goal

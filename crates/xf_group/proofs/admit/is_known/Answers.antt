@@ -10,5 +10,5 @@ pub returns : goal.returns
 returns g c =
     c.is_ok.ensures.value
     ∙ known_from_search key_cmp_total (λ entry. entry.key) c.args.entries.now c.args.key.now c.binary_search_by.result c.requires
-        (c.binary_search_by.ensures.position (λ entry. key_cmp entry.key c.args.key.now) (always_returns_same _ _ _ (λ a r f k. search rules)))
-        c.binary_search_by.ensures.bound
+    (c.binary_search_by.ensures.position (λ entry. key_cmp entry.key c.args.key.now) (always_returns_same _ _ _ (λ a r f k. search rules)))
+    c.binary_search_by.ensures.bound

@@ -11,5 +11,5 @@ loop-position-preserved g c =
     let within : c.loop-position.position < length (keys_of c.args.entries.now) = omega (arith, c.loop-position-test.true, length-map c.args.entries.now (λ one. one.key)) in
     let here = sym (get_or-map (λ one. one.key) c.args.entries.now c.loop-position.position c.index-entries-position.result entry.key c.loop-position-test.true) in
     let step = next_position (λ key. key.now) (keys_of c.args.entries.now) c.args.fresh.now c.loop-position.order.items c.push.new.self.items c.loop-position.position c.loop-position.before c.count_below-before.result entry.key _
-        c.requires.sorted c.requires.ascend (take_rest c.args.fresh.now c.loop-position.before) within here c.loop-position.invariant.within c.loop-position.invariant.order c.loop-position.invariant.passed c.count_below-before.ensures.within c.count_below-before.ensures.below c.in_ok-push.ensures.items in
+    c.requires.sorted c.requires.ascend (take_rest c.args.fresh.now c.loop-position.before) within here c.loop-position.invariant.within c.loop-position.invariant.order c.loop-position.invariant.passed c.count_below-before.ensures.within c.count_below-before.ensures.below c.in_ok-push.ensures.items in
     record { order = step.0; within = step.1; passed = step.2 }
