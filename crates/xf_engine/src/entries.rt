@@ -6,7 +6,7 @@ ghost use Rattle.xf_engine.specs.Held.{HoldEach, held_count, kept_keys, retained
 use crate::dimension::Dimension;
 use std::alloc::Global;
 use xf_access::Accessor;
-use xf_base::{Gone, OutOfMemory, Row};
+use xf_base::{Gone, Key, OutOfMemory, Row};
 use xf_lists::Lists;
 
 /// How many keys the dimensions hold together.

@@ -5,7 +5,7 @@ ghost use Rattle.xf_engine.specs.Held.{HoldEach, keys_pass, passes_each_at};
 
 use crate::dimension::{Dimension, keys_pass, passes_each};
 use std::alloc::Global;
-use xf_base::OutOfMemory;
+use xf_base::{Key, OutOfMemory};
 use xf_filter::{Filter, Predicate};
 use xf_lists::Lists;
 

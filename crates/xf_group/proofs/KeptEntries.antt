@@ -96,7 +96,7 @@ any_filter {X} p t b same (x ∷ xs) =
     ∙ any_choice (p x) (t x) b (list_any p xs) (same x)
 
 -- a key that ties with one is among keys where that one is
-tied_equal : (q k : Key) → is_eq (key_cmp q k) ≡ true → k ≡ q
+pub tied_equal : (q k : Key) → is_eq (key_cmp q k) ≡ true → k ≡ q
 tied_equal q k tied = sym (key_cmp-equal q k (equal_from_test (key_cmp q k) tied))
   where
     equal_from_test : (r : Ordering) → is_eq r ≡ true → r ≡ Equal

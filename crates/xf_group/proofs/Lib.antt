@@ -7,5 +7,14 @@ pub mod AdmitEntries
 pub mod AdmitPlaces
 pub mod AdmitFresh
 pub mod UnusedDropped
+pub mod ChangedEach
+pub mod RanksMore
+pub mod GroupHeld
+pub mod ChangedGroup
+pub mod DroppedGroup
+pub mod RisingOnce
+pub mod RankedPairs
 pub mod AdmitSteps
 pub mod AdmitKeys
+pub mod Meanings
+pub mod JoinedGroup

@@ -54,7 +54,7 @@ eqb-less i j lt = grind (arith, nat_tests)
 eqb-more : (i j : ℕ) → j < i → eqb i j ≡ false
 eqb-more i j lt = grind (arith, nat_tests)
 
-eqb-same : (i : ℕ) → eqb i i ≡ true
+pub eqb-same : (i : ℕ) → eqb i i ≡ true
 eqb-same i = grind (arith, nat_tests)
 
 -- two of them tie only where they stand at one place
@@ -168,7 +168,7 @@ renumbered_within old new number [] all same = tt
 renumbered_within old new number (own ∷ rest) all same = (renumbered_within_list old new number own all.0 same.0, renumbered_within old new number rest all.1 same.1)
 
 -- a test that the key at a position passes is passed by some key
-any_at : {X : Type 0} (test : X → Bool) (xs : List X) (k : ℕ) (d : X) → k < length xs → test (get_or xs k d) ≡ true → list_any test xs ≡ true
+pub any_at : {X : Type 0} (test : X → Bool) (xs : List X) (k : ℕ) (d : X) → k < length xs → test (get_or xs k d) ≡ true → list_any test xs ≡ true
 any_at test [] k d inside held = absurd (omega (arith, inside))
 any_at test (x ∷ xs) zero d inside held = or_left (test x) (list_any test xs) held
 any_at test (x ∷ xs) (suc k) d inside held = or_right (test x) (list_any test xs) (any_at test xs k d (omega (arith, inside)) held)

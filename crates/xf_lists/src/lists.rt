@@ -123,8 +123,8 @@ fn renumber_items(items: &mut [usize], numbers: &[usize])
     requires { AllByRecursion (λ item. item < length numbers.now) items.old }
     ensures { items.new ≡ map (slice_index numbers.now) items.old }
 {
-    for item in items.iter_mut() {
-        *item = numbers[*item];
+    for place in 0..items.len() {
+        items[place] = numbers[items[place]];
     }
 }
 

@@ -5,3 +5,4 @@ pub mod MovedKeys
 pub mod Plain
 pub mod ReplayedLines
 pub mod SelectedRows
+pub mod FoldedRows

@@ -4,11 +4,7 @@ use Rattle.xf_base.specs.declared.cell.Cell.{Cell}
 use Rattle.xf_base.specs.declared.column.Column.{Column}
 use Rattle.xf_model.specs.Group.{Reducer, fold_of}
 use Rattle.xf_reduce.specs.Folds.{IsPart, part-fold_of}
-use Rattle.xf_reduce.specs.Laws.{IsFoldBefore, IsFoldWith, Suits}
-
--- a row that suits a narrower test suits a wider one
-pub suits_wider : (fits wider : List Column → Bool) → ((columns : List Column) → fits columns ≡ true → wider columns ≡ true) → (row : List Cell) → Suits fits row → Suits wider row
-suits_wider fits wider widens row is = record { columns = is.columns; fit = widens is.columns is.fit; of_columns = is.of_columns }
+use Rattle.xf_reduce.specs.Laws.{IsFoldBefore, IsFoldWith}
 
 module _ {X Y : Type 0} (part : X → Y) (fits wider : List Column → Bool) (reducer : Reducer (List Cell) X) (own : Reducer (List Cell) Y) (widens : (columns : List Column) → fits columns ≡ true → wider columns ≡ true) (is : IsPart part reducer own) where
   pub before_part : (value : X) (row : List Cell) → IsFoldBefore fits reducer value row → IsFoldBefore wider own (part value) row

@@ -4,10 +4,10 @@ use Rattle.std.proofs.lemmas.Bool.{and_parts}
 use Rattle.xf_base.specs.declared.cell.Cell.{Cell}
 use Rattle.xf_base.specs.declared.column.Column.{Column}
 use Rattle.xf_model.specs.Group.{Reducer}
-use Rattle.xf_reduce.specs.Laws.{IsFoldBefore, IsFoldWith, Suits}
+use Rattle.xf_reduce.specs.Laws.{IsFoldBefore, IsFoldWith}
 use Rattle.xf_reduce.specs.PairLaws.{first_of_both, second_of_both}
 use Rattle.xf_reduce.specs.Pairs.{both_of}
-use Rattle.xf_reduce.proofs.Conditions.{before_part, suits_wider, with_part}
+use Rattle.xf_reduce.proofs.Conditions.{before_part, with_part}
 
 module _ (fits others : List Column → Bool) where
   fits_first : (columns : List Column) → (fits columns && others columns) ≡ true → fits columns ≡ true
@@ -15,12 +15,6 @@ module _ (fits others : List Column → Bool) where
 
   fits_second : (columns : List Column) → (fits columns && others columns) ≡ true → others columns ≡ true
   fits_second columns both = (and_parts (fits columns) (others columns) both).1
-
-  pub suits-first : (row : List Cell) → Suits (λ columns. fits columns && others columns) row → Suits fits row
-  suits-first row = suits_wider (λ columns. fits columns && others columns) fits fits_first row
-
-  pub suits-second : (row : List Cell) → Suits (λ columns. fits columns && others columns) row → Suits others row
-  suits-second row = suits_wider (λ columns. fits columns && others columns) others fits_second row
 
   module _ {X Y : Type 0} (first : Reducer (List Cell) X) (second : Reducer (List Cell) Y) (pair : X × Y) (row : List Cell) where
     pub before-first : IsFoldBefore (λ columns. fits columns && others columns) (both_of first second) pair row → IsFoldBefore fits first pair.0 row

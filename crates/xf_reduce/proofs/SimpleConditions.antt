@@ -1,9 +1,7 @@
 -- What holds of the value of any part of the stock holds of what the part itself keeps.
-use Rattle.std.proofs.Common.{◌≡◌, ℕ, Bool, true, List, refl}
+use Rattle.std.proofs.Common.{◌≡◌, ℕ, true, List, subst}
 use Rattle.xf_base.specs.declared.cell.Cell.{Cell}
-use Rattle.xf_base.specs.declared.column.Column.{Column}
-use Rattle.xf_model.specs.Group.{Reducer, count}
-use Rattle.xf_reduce.specs.Folds.{IsPart}
+use Rattle.xf_model.specs.Group.{count}
 use Rattle.xf_reduce.specs.Laws.{IsFoldBefore, IsFoldWith}
 use Rattle.xf_reduce.specs.Number.{fits_at}
 use Rattle.xf_reduce.specs.Simple.{simple_fits, simple_of}
@@ -14,32 +12,53 @@ use Rattle.xf_reduce.specs.declared.simple.Simple.TheVariants.{Count, Sum, SumCo
 use Rattle.xf_reduce.specs.declared.simple.SimpleMeaning.{SimpleMeaning}
 use Rattle.xf_reduce.proofs.Conditions.{before_part, with_part}
 
-pub count-before_simple : (kept : SimpleMeaning) (row : List Cell) → IsFoldBefore (simple_fits Count) (simple_of Count) kept row → IsFoldBefore (λ _. true) count kept.squares.totals.count row
-count-before_simple kept row before = before_part (λ (kept : SimpleMeaning). kept.squares.totals.count) (simple_fits Count) (λ _. true) (simple_of Count) count (λ columns fit. fit) count_of_simple kept row before
+module _ (part : Simple) (kept : SimpleMeaning) (row : List Cell) where
+  pub count-before_simple : part ≡ Count → IsFoldBefore (simple_fits part) (simple_of part) kept row → IsFoldBefore (λ _. true) count kept.squares.totals.count row
+  count-before_simple is before =
+      before_part (λ (kept : SimpleMeaning). kept.squares.totals.count) (simple_fits Count) (λ _. true) (simple_of Count) count (λ columns fit. fit) count_of_simple kept row
+      (subst (λ part. IsFoldBefore (simple_fits part) (simple_of part) kept row) is before)
 
-pub count-with_simple : (kept : SimpleMeaning) (row : List Cell) → IsFoldWith (simple_fits Count) (simple_of Count) kept row → IsFoldWith (λ _. true) count kept.squares.totals.count row
-count-with_simple kept row among = with_part (λ (kept : SimpleMeaning). kept.squares.totals.count) (simple_fits Count) (λ _. true) (simple_of Count) count (λ columns fit. fit) count_of_simple kept row among
+  pub count-with_simple : part ≡ Count → IsFoldWith (simple_fits part) (simple_of part) kept row → IsFoldWith (λ _. true) count kept.squares.totals.count row
+  count-with_simple is among =
+      with_part (λ (kept : SimpleMeaning). kept.squares.totals.count) (simple_fits Count) (λ _. true) (simple_of Count) count (λ columns fit. fit) count_of_simple kept row
+      (subst (λ part. IsFoldWith (simple_fits part) (simple_of part) kept row) is among)
 
-pub sum-before_simple : (place : ℕ) (kept : SimpleMeaning) (row : List Cell) → IsFoldBefore (simple_fits (Sum place)) (simple_of (Sum place)) kept row → IsFoldBefore (fits_at place) (sum_of place) kept.squares.totals.sum row
-sum-before_simple place kept row before = before_part (λ (kept : SimpleMeaning). kept.squares.totals.sum) (simple_fits (Sum place)) (fits_at place) (simple_of (Sum place)) (sum_of place) (λ columns fit. fit) (sum_of_simple place) kept row before
+  pub sum-before_simple : (place : ℕ) → part ≡ Sum place → IsFoldBefore (simple_fits part) (simple_of part) kept row → IsFoldBefore (fits_at place) (sum_of place) kept.squares.totals.sum row
+  sum-before_simple place is before =
+      before_part (λ (kept : SimpleMeaning). kept.squares.totals.sum) (simple_fits (Sum place)) (fits_at place) (simple_of (Sum place)) (sum_of place) (λ columns fit. fit) (sum_of_simple place) kept row
+      (subst (λ part. IsFoldBefore (simple_fits part) (simple_of part) kept row) is before)
 
-pub sum-with_simple : (place : ℕ) (kept : SimpleMeaning) (row : List Cell) → IsFoldWith (simple_fits (Sum place)) (simple_of (Sum place)) kept row → IsFoldWith (fits_at place) (sum_of place) kept.squares.totals.sum row
-sum-with_simple place kept row among = with_part (λ (kept : SimpleMeaning). kept.squares.totals.sum) (simple_fits (Sum place)) (fits_at place) (simple_of (Sum place)) (sum_of place) (λ columns fit. fit) (sum_of_simple place) kept row among
+  pub sum-with_simple : (place : ℕ) → part ≡ Sum place → IsFoldWith (simple_fits part) (simple_of part) kept row → IsFoldWith (fits_at place) (sum_of place) kept.squares.totals.sum row
+  sum-with_simple place is among =
+      with_part (λ (kept : SimpleMeaning). kept.squares.totals.sum) (simple_fits (Sum place)) (fits_at place) (simple_of (Sum place)) (sum_of place) (λ columns fit. fit) (sum_of_simple place) kept row
+      (subst (λ part. IsFoldWith (simple_fits part) (simple_of part) kept row) is among)
 
-pub totals-before_simple : (place : ℕ) (kept : SimpleMeaning) (row : List Cell) → IsFoldBefore (simple_fits (SumCount place)) (simple_of (SumCount place)) kept row → IsFoldBefore (fits_at place) (totals_of place) kept.squares.totals row
-totals-before_simple place kept row before = before_part (λ (kept : SimpleMeaning). kept.squares.totals) (simple_fits (SumCount place)) (fits_at place) (simple_of (SumCount place)) (totals_of place) (λ columns fit. fit) (totals_of_simple place) kept row before
+  pub totals-before_simple : (place : ℕ) → part ≡ SumCount place → IsFoldBefore (simple_fits part) (simple_of part) kept row → IsFoldBefore (fits_at place) (totals_of place) kept.squares.totals row
+  totals-before_simple place is before =
+      before_part (λ (kept : SimpleMeaning). kept.squares.totals) (simple_fits (SumCount place)) (fits_at place) (simple_of (SumCount place)) (totals_of place) (λ columns fit. fit) (totals_of_simple place) kept row
+      (subst (λ part. IsFoldBefore (simple_fits part) (simple_of part) kept row) is before)
 
-pub totals-with_simple : (place : ℕ) (kept : SimpleMeaning) (row : List Cell) → IsFoldWith (simple_fits (SumCount place)) (simple_of (SumCount place)) kept row → IsFoldWith (fits_at place) (totals_of place) kept.squares.totals row
-totals-with_simple place kept row among = with_part (λ (kept : SimpleMeaning). kept.squares.totals) (simple_fits (SumCount place)) (fits_at place) (simple_of (SumCount place)) (totals_of place) (λ columns fit. fit) (totals_of_simple place) kept row among
+  pub totals-with_simple : (place : ℕ) → part ≡ SumCount place → IsFoldWith (simple_fits part) (simple_of part) kept row → IsFoldWith (fits_at place) (totals_of place) kept.squares.totals row
+  totals-with_simple place is among =
+      with_part (λ (kept : SimpleMeaning). kept.squares.totals) (simple_fits (SumCount place)) (fits_at place) (simple_of (SumCount place)) (totals_of place) (λ columns fit. fit) (totals_of_simple place) kept row
+      (subst (λ part. IsFoldWith (simple_fits part) (simple_of part) kept row) is among)
 
-pub squares-before_simple : (place : ℕ) (kept : SimpleMeaning) (row : List Cell) → IsFoldBefore (simple_fits (SumSquares place)) (simple_of (SumSquares place)) kept row → IsFoldBefore (fits_at place) (squares_of place) kept.squares row
-squares-before_simple place kept row before = before_part (λ (kept : SimpleMeaning). kept.squares) (simple_fits (SumSquares place)) (fits_at place) (simple_of (SumSquares place)) (squares_of place) (λ columns fit. fit) (squares_of_simple place) kept row before
+  pub squares-before_simple : (place : ℕ) → part ≡ SumSquares place → IsFoldBefore (simple_fits part) (simple_of part) kept row → IsFoldBefore (fits_at place) (squares_of place) kept.squares row
+  squares-before_simple place is before =
+      before_part (λ (kept : SimpleMeaning). kept.squares) (simple_fits (SumSquares place)) (fits_at place) (simple_of (SumSquares place)) (squares_of place) (λ columns fit. fit) (squares_of_simple place) kept row
+      (subst (λ part. IsFoldBefore (simple_fits part) (simple_of part) kept row) is before)
 
-pub squares-with_simple : (place : ℕ) (kept : SimpleMeaning) (row : List Cell) → IsFoldWith (simple_fits (SumSquares place)) (simple_of (SumSquares place)) kept row → IsFoldWith (fits_at place) (squares_of place) kept.squares row
-squares-with_simple place kept row among = with_part (λ (kept : SimpleMeaning). kept.squares) (simple_fits (SumSquares place)) (fits_at place) (simple_of (SumSquares place)) (squares_of place) (λ columns fit. fit) (squares_of_simple place) kept row among
+  pub squares-with_simple : (place : ℕ) → part ≡ SumSquares place → IsFoldWith (simple_fits part) (simple_of part) kept row → IsFoldWith (fits_at place) (squares_of place) kept.squares row
+  squares-with_simple place is among =
+      with_part (λ (kept : SimpleMeaning). kept.squares) (simple_fits (SumSquares place)) (fits_at place) (simple_of (SumSquares place)) (squares_of place) (λ columns fit. fit) (squares_of_simple place) kept row
+      (subst (λ part. IsFoldWith (simple_fits part) (simple_of part) kept row) is among)
 
-pub numbers-before_simple : (place : ℕ) (kept : SimpleMeaning) (row : List Cell) → IsFoldBefore (simple_fits (Spread place)) (simple_of (Spread place)) kept row → IsFoldBefore (fits_at place) (numbers_of place) kept.numbers row
-numbers-before_simple place kept row before = before_part (λ (kept : SimpleMeaning). kept.numbers) (simple_fits (Spread place)) (fits_at place) (simple_of (Spread place)) (numbers_of place) (λ columns fit. fit) (numbers_of_simple place) kept row before
+  pub numbers-before_simple : (place : ℕ) → part ≡ Spread place → IsFoldBefore (simple_fits part) (simple_of part) kept row → IsFoldBefore (fits_at place) (numbers_of place) kept.numbers row
+  numbers-before_simple place is before =
+      before_part (λ (kept : SimpleMeaning). kept.numbers) (simple_fits (Spread place)) (fits_at place) (simple_of (Spread place)) (numbers_of place) (λ columns fit. fit) (numbers_of_simple place) kept row
+      (subst (λ part. IsFoldBefore (simple_fits part) (simple_of part) kept row) is before)
 
-pub numbers-with_simple : (place : ℕ) (kept : SimpleMeaning) (row : List Cell) → IsFoldWith (simple_fits (Spread place)) (simple_of (Spread place)) kept row → IsFoldWith (fits_at place) (numbers_of place) kept.numbers row
-numbers-with_simple place kept row among = with_part (λ (kept : SimpleMeaning). kept.numbers) (simple_fits (Spread place)) (fits_at place) (simple_of (Spread place)) (numbers_of place) (λ columns fit. fit) (numbers_of_simple place) kept row among
+  pub numbers-with_simple : (place : ℕ) → part ≡ Spread place → IsFoldWith (simple_fits part) (simple_of part) kept row → IsFoldWith (fits_at place) (numbers_of place) kept.numbers row
+  numbers-with_simple place is among =
+      with_part (λ (kept : SimpleMeaning). kept.numbers) (simple_fits (Spread place)) (fits_at place) (simple_of (Spread place)) (numbers_of place) (λ columns fit. fit) (numbers_of_simple place) kept row
+      (subst (λ part. IsFoldWith (simple_fits part) (simple_of part) kept row) is among)

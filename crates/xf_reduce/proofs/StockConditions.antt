@@ -1,5 +1,5 @@
 -- No sum of the stock is too large for its type.
-use Rattle.std.proofs.Common.{◌≡◌, ℕ, ◌+◌, ◌*◌, ◌<◌, ◌≤◌, ℤ, true, nat_abs, ◌+ℤ◌, ◌-ℤ◌, ◌*ℤ◌, List, length, refl, ap, ◌∙◌, arith, le_trans, mul-le-mul_right}
+use Rattle.std.proofs.Common.{◌≡◌, ℕ, ◌*◌, ◌<◌, ◌≤◌, ℤ, true, nat_abs, ◌-ℤ◌, ◌*ℤ◌, List, length, refl, ap, ◌∙◌, arith, le_trans, mul-le-mul_right}
 use Rattle.xf_base.specs.declared.cell.Cell.{Cell}
 use Rattle.xf_base.specs.declared.fixed.TheConstants.{GREATEST_NUMBER}
 use Rattle.xf_base.specs.declared.limits.TheConstants.Limits.{ROWS}

@@ -1,20 +1,27 @@
 -- What holds of the value of a reducer of the stock holds of those of its parts, and no value is of another shape.
-use Rattle.std.proofs.Common.{◌≡◌, Bool, true, ◌&&◌, List, ap, ◌∙◌}
+use Rattle.std.proofs.Common.{◌≡◌, true, List, ap, subst₂, ◌∙◌}
 use Rattle.std.proofs.lemmas.Bool.{and_parts}
 use Rattle.xf_base.specs.declared.cell.Cell.{Cell}
 use Rattle.xf_base.specs.declared.column.Column.{Column}
-use Rattle.xf_model.specs.Group.{Reducer, fold_of}
-use Rattle.xf_reduce.specs.Laws.{IsFoldBefore, IsFoldWith, Suits}
+use Rattle.xf_model.specs.Group.{fold_of}
+use Rattle.xf_reduce.specs.Laws.{IsFoldBefore, IsFoldWith}
 use Rattle.xf_reduce.specs.Simple.{simple_fits, simple_of}
-use Rattle.xf_reduce.specs.StockReducer.{stock_fits, stock_of, stock_step}
+use Rattle.xf_reduce.specs.StockReducer.{stock_fits, stock_meaning, stock_of, stock_step}
 use Rattle.xf_reduce.specs.StockReducerLaws.{fold_of-one, fold_of-two}
 use Rattle.xf_reduce.specs.declared.simple.Simple.{Simple}
 use Rattle.xf_reduce.specs.declared.simple.SimpleMeaning.{SimpleMeaning}
-use Rattle.xf_reduce.specs.declared.stock_reducer.StockMeaning.{StockMeaning}
 use Rattle.xf_reduce.specs.declared.stock_reducer.StockMeaning.TheVariants as meaning
 use Rattle.xf_reduce.specs.declared.stock_reducer.StockReducer.{StockReducer}
 use Rattle.xf_reduce.specs.declared.stock_reducer.StockReducer.TheVariants as stock
-use Rattle.xf_reduce.proofs.Conditions.{suits_wider}
+use Rattle.xf_reduce.specs.declared.stock_reducer.StockValue.{StockValue}
+
+-- ---- of a reducer and a value that are known
+
+pub before_known : (reducer known : StockReducer) (value kept : StockValue) (row : List Cell) → reducer ≡ known → value ≡ kept → IsFoldBefore (stock_fits reducer) (stock_of reducer) (stock_meaning value) row → IsFoldBefore (stock_fits known) (stock_of known) (stock_meaning kept) row
+before_known reducer known value kept row same alike before = subst₂ (λ reducer value. IsFoldBefore (stock_fits reducer) (stock_of reducer) (stock_meaning value) row) same alike before
+
+pub with_known : (reducer known : StockReducer) (value kept : StockValue) (row : List Cell) → reducer ≡ known → value ≡ kept → IsFoldWith (stock_fits reducer) (stock_of reducer) (stock_meaning value) row → IsFoldWith (stock_fits known) (stock_of known) (stock_meaning kept) row
+with_known reducer known value kept row same alike among = subst₂ (λ reducer value. IsFoldWith (stock_fits reducer) (stock_of reducer) (stock_meaning value) row) same alike among
 
 -- ---- of one part
 
@@ -44,12 +51,6 @@ module _ (first second : Simple) where
 
   fits_second : (columns : List Column) → stock_fits (stock.Two first second) columns ≡ true → simple_fits second columns ≡ true
   fits_second columns fits = (and_parts (simple_fits first columns) (simple_fits second columns) fits).1
-
-  pub suits-first : (row : List Cell) → Suits (stock_fits (stock.Two first second)) row → Suits (simple_fits first) row
-  suits-first row = suits_wider (stock_fits (stock.Two first second)) (simple_fits first) fits_first row
-
-  pub suits-second : (row : List Cell) → Suits (stock_fits (stock.Two first second)) row → Suits (simple_fits second) row
-  suits-second row = suits_wider (stock_fits (stock.Two first second)) (simple_fits second) fits_second row
 
   module _ (one other : SimpleMeaning) (row : List Cell) where
     pub before-first : IsFoldBefore (stock_fits (stock.Two first second)) (stock_of (stock.Two first second)) (meaning.Two one other) row → IsFoldBefore (simple_fits first) (simple_of first) one row

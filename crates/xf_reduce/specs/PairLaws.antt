@@ -1,5 +1,5 @@
 -- Reducers of lawful parts are lawful.
-use Rattle.std.proofs.Common.{◌≡◌, ℕ, ◌+◌, ◌-◌, ◌<◌, ◌≤◌, nat_lt, ℤ, Bool, true, ◌&&◌, if◌then◌else◌, List, refl, sym, subst, arith}
+use Rattle.std.proofs.Common.{◌≡◌, ℕ, ◌+◌, ◌-◌, ◌<◌, ◌≤◌, nat_lt, ℤ, Bool, ◌&&◌, if◌then◌else◌, List, refl, sym, subst, arith}
 use Rattle.std.proofs.lemmas.Bool.{and_parts, cond_both}
 use Rattle.std.proofs.lemmas.Bool.Decides.{nat_tests}
 use Rattle.xf_base.specs.declared.cell.Cell.{Cell}
@@ -38,8 +38,8 @@ module _ {X Y : Type 0} {fits other_fits : List Column → Bool} (first : Reduce
       λ i. (left i, right i)
 
   pub both_take_back : (undo : X → List Cell → X) (other_undo : Y → List Cell → Y)
-    → TakesBack fits first undo → TakesBack other_fits second other_undo
-    → TakesBack (λ columns. fits columns && other_fits columns) (both_of first second) (both_less undo other_undo)
+      → TakesBack fits first undo → TakesBack other_fits second other_undo
+      → TakesBack (λ columns. fits columns && other_fits columns) (both_of first second) (both_less undo other_undo)
   both_take_back undo other_undo one other columns fit rows row few all is =
       let fits_both = and_parts (fits columns) (other_fits columns) fit in
       let front = sym (part-fold_of (λ (pair : X × Y). pair.0) (both_of first second) first (first_of_both first second) rows) in
@@ -49,8 +49,8 @@ module _ {X Y : Type 0} {fits other_fits : List Column → Bool} (first : Reduce
       λ i. (left i, right i)
 
   pub both_within : (rank : X → ℕ → ℤ) (other_rank : Y → ℕ → ℤ) {fields other_fields : ℕ}
-    → RanksWithin fits first rank fields → RanksWithin other_fits second other_rank other_fields
-    → RanksWithin (λ columns. fits columns && other_fits columns) (both_of first second) (both_field fields rank other_rank) (fields + other_fields)
+      → RanksWithin fits first rank fields → RanksWithin other_fits second other_rank other_fields
+      → RanksWithin (λ columns. fits columns && other_fits columns) (both_of first second) (both_field fields rank other_rank) (fields + other_fields)
   both_within rank other_rank {fields = fields} {other_fields = other_fields} one other columns rows field fit all few within =
       let fits_both = and_parts (fits columns) (other_fits columns) fit in
       let pair = fold_of (both_of first second) rows in

@@ -1,5 +1,5 @@
 -- Two reducers side by side: each sees every row.
-use Rattle.std.specs.Prelude.{ℕ, ◌-◌, nat_lt, ℤ, List, if◌then◌else◌}
+use Rattle.std.specs.Prelude.{ℕ, ◌-◌, nat_lt, ℤ, if◌then◌else◌}
 use Rattle.xf_model.specs.Group.{Reducer}
 
 -- the fold of both

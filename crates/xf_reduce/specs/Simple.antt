@@ -1,5 +1,5 @@
 -- What any part of the stock means.
-use Rattle.std.specs.Prelude.{ℕ, ◌+◌, ℤ, pos, Bool, true, List}
+use Rattle.std.specs.Prelude.{ℕ, ℤ, pos, Bool, true, List}
 use Rattle.xf_base.specs.declared.cell.Cell.{Cell}
 use Rattle.xf_base.specs.declared.column.Column.{Column}
 use Rattle.xf_model.specs.Group.{Reducer, count}
@@ -9,7 +9,6 @@ use Rattle.xf_reduce.specs.declared.simple.Simple.{Simple}
 use Rattle.xf_reduce.specs.declared.simple.Simple.TheVariants.{Count, Sum, SumCount, SumSquares, Spread}
 use Rattle.xf_reduce.specs.declared.simple.SimpleMeaning.{SimpleMeaning}
 use Rattle.xf_reduce.specs.declared.sum_count.Totals.{Totals}
-use Rattle.xf_reduce.specs.declared.sum_squares.SquareTotals.{SquareTotals}
 
 -- what is kept of no rows, whichever part it is
 abbrev pub nothing : SimpleMeaning

@@ -1,14 +1,13 @@
 -- The laws of any part of the stock: those of the part that it is.
-use Rattle.std.proofs.Common.{◌≡◌, ℕ, ◌≤◌, ◌<◌, ℤ, Bool, true, List, refl, sym, ap, ◌∙◌, subst, lit≤}
+use Rattle.std.proofs.Common.{◌≡◌, ℕ, ◌≤◌, ℤ, List, refl, sym, subst, lit≤}
 use Rattle.xf_base.specs.declared.cell.Cell.{Cell}
-use Rattle.xf_base.specs.declared.column.Column.{Column}
-use Rattle.xf_model.specs.Group.{Reducer, count, fold_of}
+use Rattle.xf_model.specs.Group.{count, fold_of}
 use Rattle.xf_reduce.specs.Folds.{IsPart, part-fold_of, swap_sum, back_sum}
 use Rattle.xf_reduce.specs.Laws.{IsRank, RanksWithin, Swaps, TakesBack}
-use Rattle.xf_reduce.specs.Number.{fits_at, number_at}
+use Rattle.xf_reduce.specs.Number.{number_at}
 use Rattle.xf_reduce.specs.NumbersLaws.{numbers_swap, numbers_take_back, numbers_within}
 use Rattle.xf_reduce.specs.Simple.{simple_field, simple_field_count, simple_fits, simple_less, simple_of, with_totals}
-use Rattle.xf_reduce.specs.Stock.{numbers_field, numbers_less, numbers_of, squares_field, squares_of, sum_of, totals_field, totals_of}
+use Rattle.xf_reduce.specs.Stock.{numbers_field, numbers_less, numbers_of, squares_of, sum_of, totals_of}
 use Rattle.xf_reduce.specs.StockLaws.{one_is_few, three_are_few, back_count, count_within, sum_within, totals_within, squares_within, swap_totals, back_totals, swap_squares, back_squares}
 use Rattle.xf_reduce.specs.declared.simple.Simple.{Simple}
 use Rattle.xf_reduce.specs.declared.simple.Simple.TheVariants.{Count, Sum, SumCount, SumSquares, Spread}

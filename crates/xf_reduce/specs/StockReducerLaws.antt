@@ -1,12 +1,11 @@
 -- The laws of the reducers of the stock: those of their parts.
-use Rattle.std.proofs.Common.{◌≡◌, ℕ, ◌+◌, ◌-◌, ◌<◌, ◌≤◌, ℤ, Bool, true, List, [], ◌∷◌, fold, refl, sym, ap, subst, arith}
+use Rattle.std.proofs.Common.{◌≡◌, ◌-◌, ◌<◌, ◌≤◌, List, [], ◌∷◌, fold, refl, sym, subst}
 use Rattle.std.proofs.lemmas.Bool.{and_parts}
 use Rattle.xf_base.specs.declared.cell.Cell.{Cell}
-use Rattle.xf_base.specs.declared.column.Column.{Column}
-use Rattle.xf_model.specs.Group.{Reducer, fold_of}
+use Rattle.xf_model.specs.Group.{fold_of}
 use Rattle.xf_reduce.specs.Laws.{IsRank, RanksWithin, Swaps, TakesBack}
 use Rattle.xf_reduce.specs.PairLaws.{alone_few, both_few, both_is_rank}
-use Rattle.xf_reduce.specs.Simple.{simple_field, simple_field_count, simple_fits, simple_less, simple_of}
+use Rattle.xf_reduce.specs.Simple.{simple_field, simple_field_count, simple_fits, simple_of}
 use Rattle.xf_reduce.specs.SimpleLaws.{simple_few, simple_swaps, simple_takes_back, simple_within}
 use Rattle.xf_reduce.specs.StockReducer.{stock_field, stock_field_count, stock_fits, stock_less, stock_of, stock_step}
 use Rattle.xf_reduce.specs.declared.simple.Simple.{Simple}

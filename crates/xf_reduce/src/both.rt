@@ -65,23 +65,13 @@ impl<A: Part, B: Part> Reducer for Both<A, B> {
         self.1.prepare(&mut value.1, row)
     }
 
-    fn add<L: Ledger>(
-        &self,
-        value: &mut (A::Value, B::Value),
-        row: &Row,
-        steps: &mut Steps<L>,
-    ) {
+    fn add<L: Ledger>(&self, value: &mut (A::Value, B::Value), row: &Row, steps: &mut Steps<L>) {
         steps.tick();
         self.0.add(&mut value.0, row);
         self.1.add(&mut value.1, row);
     }
 
-    fn remove<L: Ledger>(
-        &self,
-        value: &mut (A::Value, B::Value),
-        row: &Row,
-        steps: &mut Steps<L>,
-    ) {
+    fn remove<L: Ledger>(&self, value: &mut (A::Value, B::Value), row: &Row, steps: &mut Steps<L>) {
         steps.tick();
         self.0.remove(&mut value.0, row);
         self.1.remove(&mut value.1, row);

@@ -14,7 +14,7 @@ pub struct Spread(pub usize);
 impl Part for Spread {
     ghost use Rattle.xf_reduce.specs.Number.{fits_at, number_at};
     ghost use Rattle.xf_reduce.specs.Stock.{numbers_field, numbers_less, numbers_of};
-    ghost use Rattle.xf_reduce.specs.NumbersLaws.{numbers_swap, numbers_take_back, numbers_within};
+    ghost use Rattle.xf_reduce.specs.NumbersLaws.{numbers_few, numbers_swap, numbers_take_back, numbers_within};
     ghost use Rattle.xf_reduce.specs.Tallies.{HasTally, numbers_in};
 
     type Value = Tallies;
@@ -35,7 +35,7 @@ impl Part for Spread {
 
     ghost IsReady = { λ part value row. HasTally value (number_at part.0 row) };
 
-    ghost few_fields = { λ _. ? };
+    ghost few_fields = { λ _. numbers_few };
 
     ghost swaps = { λ part. numbers_swap part.0 };
 

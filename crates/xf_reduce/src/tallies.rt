@@ -1,5 +1,8 @@
 //! Numbers with how often each is there: what a spread keeps.
-ghost use Rattle.std.specs.Prelude.{◌≡◌, ◌-◌, ◌/◌, ◌<◌, ◌^◌, [], pos, length, OnOk, OnErr};
+ghost use Rattle.std.specs.Prelude.{◌≡◌, ◌<◌, ◌^◌, [], pos, length, OnOk, Some};
+ghost use Rattle.std.specs.BTreeMap.{insert_entry};
+ghost use Rattle.std.specs.Map.{lookup};
+ghost use Rattle.std.specs.Ordering.{int_cmp, is_eq};
 ghost use Rattle.xf_reduce.specs.Stock.{number_in_place, numbers_field, with_number, without_number};
 ghost use Rattle.xf_reduce.specs.Tallies.{HasTally, StaysEntered, numbers_in};
 
@@ -59,12 +62,12 @@ impl Tallies {
         ensures numbers { numbers_in self.new ≡ with_number number (numbers_in self.old) }
         ensures kept { StaysEntered self.old self.new }
     {
-        let count = self.counts.get(&number).copied().unwrap_or(0);
+        let count = count_of(&self.counts, number);
+        self.total += 1;
+        recount(&mut self.counts, number, count + 1);
         if count == 0 {
             self.distinct += 1;
         }
-        self.total += 1;
-        let _old = self.counts.insert(number, count + 1);
     }
 
     /// A number that is entered once less, where it is there, in logarithmic time. It takes no memory.
@@ -73,15 +76,15 @@ impl Tallies {
         ensures numbers { numbers_in self.new ≡ without_number number (numbers_in self.old) }
         ensures kept { StaysEntered self.old self.new }
     {
-        let count = self.counts.get(&number).copied().unwrap_or(0);
+        let count = count_of(&self.counts, number);
         if count == 0 {
             return;
         }
+        self.total -= 1;
+        recount(&mut self.counts, number, count - 1);
         if count == 1 {
             self.distinct -= 1;
         }
-        self.total -= 1;
-        let _old = self.counts.insert(number, count - 1);
     }
 
     /// How many numbers differ.
@@ -125,4 +128,21 @@ impl Tallies {
         }
         0
     }
+}
+
+/// How often a number that is entered is there.
+fn count_of(counts: &BTreeMap<i64, u64>, number: i64) -> u64
+    requires { HasTally counts.now.entries number }
+    ensures { lookup (λ own. is_eq (int_cmp number own)) counts.now.entries ≡ Some result }
+{
+    counts.get(&number).copied().unwrap_or(0)
+}
+
+/// Changes how often a number that is entered is there. It takes no memory.
+fn recount(counts: &mut BTreeMap<i64, u64>, number: i64, count: u64)
+    requires { HasTally counts.old.entries number }
+    ensures entries { counts.new.entries ≡ insert_entry int_cmp counts.old.entries number count }
+    ensures kept { StaysEntered counts.old.entries counts.new.entries }
+{
+    let _old = counts.insert(number, count);
 }

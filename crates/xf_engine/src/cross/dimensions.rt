@@ -40,7 +40,7 @@ impl<A: Accessor, G: Rounding, P: Predicate> Cross<A, G, P> {
         }
         let keys = keys_of_rows(self.alloc, &accessor, self.table.rows(steps).as_slice())?;
         let have = entry_count(self.dimensions.as_slice());
-        let more = keys.key_count() as u64;
+        let more = keys.item_count() as u64;
         let limit = self.table.limits().entries;
         if more > limit - have {
             return Err(DimensionRefusal::TooManyEntries { have, more, limit });

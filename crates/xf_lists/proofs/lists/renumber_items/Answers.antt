@@ -5,13 +5,13 @@ use Rattle.std.proofs.lemmas.List.Edits.{map_over_more}
 use Rattle.xf_lists.proofs.Renumbered.{changed-all}
 use Rattle.xf_lists.proofs.lists.renumber_items.Goals as goal
 
-pub loop-item-preserved : goal.loop-item-preserved
-loop-item-preserved c =
-    let items = c.loop-item.items in
-    let place = c.loop-item.item-index in
+pub loop-place-preserved : goal.loop-place-preserved
+loop-place-preserved c =
+    let items = c.loop-place.items in
+    let place = c.loop-place.place in
     let item = get_or items place 0 in
-    let within : place < length items = omega (arith, c.loop-item-test.true, c.loop-item.auto.items) in
-    map_over_more (slice_index c.args.numbers.now) c.args.items.now items place item c.loop-item-test.true c.loop-item.invariant (get_or_default items place 0 item within)
+    let within : place < length items = omega (arith, c.loop-place-test.true, c.loop-place.auto.items) in
+    map_over_more (slice_index c.args.numbers.now) c.args.items.now items place item c.loop-place-test.true c.loop-place.invariant (get_or_default items place 0 item within)
 
 pub returns : goal.returns
-returns c = c.loop-item.invariant ∙ changed-all (slice_index c.args.numbers.now) c.args.items.now c.loop-item.item-index (search rules)
+returns c = c.loop-place.invariant ∙ changed-all (slice_index c.args.numbers.now) c.args.items.now c.loop-place.place (search rules)

@@ -34,7 +34,7 @@ returns-then-more-limit-clause-refused g c =
     let long : length (live_dimensions items) ≡ c.len.result = length-map items live_dimension ∙ search rules in
     let have : c.entry_count-have.result ≡ entry_count keys_of here table.rows = c.entry_count-have.ensures ∙ ap (sum_by held_count) c.as_slice-2.ensures.value ∙ held-entries keys_of table.rows items c.self.invariant.keys in
     let keys : c.in_ok-keys.keys ≡ map (keys_of c.args.accessor) table.rows = c.in_ok-keys.ensures ∙ ap (map (keys_of c.args.accessor)) (c.as_slice.ensures ∙ c.rows.ensures.rows) in
-    let more : c.key_count-more.result ≡ entries_by keys_of table.rows c.args.accessor = c.key_count-more.ensures.count ∙ ap (sum_by length) keys ∙ sum-map length (keys_of c.args.accessor) table.rows in
+    let more : c.item_count-more.result ≡ entries_by keys_of table.rows c.args.accessor = c.item_count-more.ensures.count ∙ ap (sum_by length) keys ∙ sum-map length (keys_of c.args.accessor) table.rows in
     let few : length here.dimensions < table.limits.dimensions = omega (arith, most, long, c.if-len-limit.false) in
     let full : table.limits.entries < entry_count keys_of here table.rows + entries_by keys_of table.rows c.args.accessor = omega (arith, limit, have, more, c.if-more-limit.true, c.self.invariant.state.few_entries) in
     inr (rw (← c.self.view_is) (refused-dimension keys_of here c.args.accessor few full ∙ ap Some (sym (λ i. TooManyEntries (have i) (more i) (limit i)))))
@@ -51,7 +51,7 @@ invariant_of-self-2 g c =
     let long : length (live_dimensions items) ≡ c.len.result = length-map items live_dimension ∙ search rules in
     let have : c.entry_count-have.result ≡ entry_count keys_of here table.rows = c.entry_count-have.ensures ∙ ap (sum_by held_count) c.as_slice-2.ensures.value ∙ held-entries keys_of table.rows items c.self.invariant.keys in
     let keys : c.in_ok-keys.keys ≡ map (keys_of c.args.accessor) table.rows = c.in_ok-keys.ensures ∙ ap (map (keys_of c.args.accessor)) (c.as_slice.ensures ∙ c.rows.ensures.rows) in
-    let more : c.key_count-more.result ≡ entries_by keys_of table.rows c.args.accessor = c.key_count-more.ensures.count ∙ ap (sum_by length) keys ∙ sum-map length (keys_of c.args.accessor) table.rows in
+    let more : c.item_count-more.result ≡ entries_by keys_of table.rows c.args.accessor = c.item_count-more.ensures.count ∙ ap (sum_by length) keys ∙ sum-map length (keys_of c.args.accessor) table.rows in
     let few : length here.dimensions < table.limits.dimensions = omega (arith, most, long, c.if-len-limit.false) in
     let room : entry_count keys_of here table.rows + entries_by keys_of table.rows c.args.accessor ≤ table.limits.entries = omega (arith, limit, have, more, c.if-more-limit.false, c.self.invariant.state.few_entries) in
     let dimension : Dimension g.row.A.Denot g.row.P.Denot = record { id = c.free_dimension_id-id.result; accessor = c.args.accessor; filter = All; keys = c.in_ok-keys.keys } in
@@ -81,7 +81,7 @@ returns-clause-accepted g c =
     let long : length (live_dimensions items) ≡ c.len.result = length-map items live_dimension ∙ search rules in
     let have : c.entry_count-have.result ≡ entry_count keys_of here table.rows = c.entry_count-have.ensures ∙ ap (sum_by held_count) c.as_slice-2.ensures.value ∙ held-entries keys_of table.rows items c.self.invariant.keys in
     let keys : c.in_ok-keys.keys ≡ map (keys_of c.args.accessor) table.rows = c.in_ok-keys.ensures ∙ ap (map (keys_of c.args.accessor)) (c.as_slice.ensures ∙ c.rows.ensures.rows) in
-    let more : c.key_count-more.result ≡ entries_by keys_of table.rows c.args.accessor = c.key_count-more.ensures.count ∙ ap (sum_by length) keys ∙ sum-map length (keys_of c.args.accessor) table.rows in
+    let more : c.item_count-more.result ≡ entries_by keys_of table.rows c.args.accessor = c.item_count-more.ensures.count ∙ ap (sum_by length) keys ∙ sum-map length (keys_of c.args.accessor) table.rows in
     let few : length here.dimensions < table.limits.dimensions = omega (arith, most, long, c.if-len-limit.false) in
     let room : entry_count keys_of here table.rows + entries_by keys_of table.rows c.args.accessor ≤ table.limits.entries = omega (arith, limit, have, more, c.if-more-limit.false, c.self.invariant.state.few_entries) in
     rw (← c.self.view_is) (accepted-dimension keys_of here c.args.accessor few room)
