@@ -1,9 +1,9 @@
 -- New entries among the old: all keys are those of both, each old key stands where the new positions say, and each value means what it did.
-use Rattle.std.proofs.Common.{◌≡◌, ℕ, zero, suc, ◌+◌, Bool, true, false, not, ◌&&◌, ◌||◌, cond, List, [], ◌∷◌, ◌++◌, map, length, Some, slice_get, slice_index, refl, sym, ap, subst, ◌∙◌, arith, ⊎_elim}
+use Rattle.std.proofs.Common.{◌≡◌, ℕ, zero, suc, ◌+◌, Bool, true, false, not, ◌&&◌, ◌||◌, cond, List, [], ◌∷◌, ◌++◌, map, length, Some, slice_get, slice_index, append-nil, refl, sym, ap, subst, ◌∙◌, arith, ⊎_elim}
 use Rattle.std.proofs.lemmas.Cmp.{tied_itself}
 use Rattle.std.proofs.lemmas.List.{length-append, length-map, map-append}
 use Rattle.std.proofs.lemmas.List.Folds.{list_any-append}
-use Rattle.std.proofs.lemmas.List.Sorted.{IsPermutation-map, length_permutation, list_any-IsPermutation, sum_by-IsPermutation}
+use Rattle.std.proofs.lemmas.List.Sorted.{IsPermutation-map, IsPermutation-refl, length_permutation, list_any-IsPermutation, sum_by-IsPermutation}
 use Rattle.std.proofs.lemmas.Map.Views.{any-filter_same}
 use Rattle.std.proofs.lemmas.Option.{none-some, same_Some, slice_get_cases}
 use Rattle.std.specs.List.{AllByRecursion, enumerate_from, flat_map}
@@ -14,7 +14,7 @@ use Rattle.xf_base.specs.KeyOrder.{key_cmp_total}
 use Rattle.xf_base.specs.declared.key.Key.{Key}
 use Rattle.xf_base.proofs.EqualKeys.{key_cmp-equal}
 use Rattle.xf_group.specs.Fresh.{count_below, fresh_keys, new_keys, new_position, new_positions}
-use Rattle.xf_group.specs.Held.{keys_of}
+use Rattle.xf_group.specs.Held.{AreWithin, keys_of}
 use Rattle.xf_group.specs.declared.entry.Entry.{Entry}
 use Rattle.xf_group.proofs.AdmitFresh.{equal_from_test}
 use Rattle.xf_group.proofs.AdmitOrder.{AtMostOnce, once_joined, stands_on, strict_from_sort}
@@ -58,7 +58,19 @@ all_keys_entered old lists all moved sorted =
     ∙ sym (list_any-append test old (all_keys lists))
     ∙ sym (ties-distinct_keys key_cmp_total q (old ++ all_keys lists)))
 
+-- where none is fresh they are those of the old
+pub no_keys_entered : (old : List Key) (lists : List (List Key)) → IsStrictlySortedBy key_cmp old → fresh_keys old lists ≡ [] → old ≡ distinct_keys key_cmp (old ++ all_keys lists)
+no_keys_entered old lists sorted none =
+    all_keys_entered old lists old (subst (λ keys. IsPermutation keys old) (sym (ap (λ keys. old ++ keys) none ∙ append-nil old)) (IsPermutation-refl old)) sorted
+
 -- ---- entries
+
+-- positions among entries are positions among their keys
+pub within_keys : {Value : Type 0} (entries : List (Entry Value)) (places : List (List ℕ)) → AreWithin (length entries) places → AreWithin (length (keys_of entries)) places
+within_keys entries places within = subst (λ n. AreWithin n places) (sym (length-map entries (λ entry. entry.key))) within
+
+pub within_entries : {Value : Type 0} (entries : List (Entry Value)) (places : List (List ℕ)) → AreWithin (length (keys_of entries)) places → AreWithin (length entries) places
+within_entries entries places within = subst (λ n. AreWithin n places) (length-map entries (λ entry. entry.key)) within
 
 -- the keys of old and added entries in the order of all
 keys_moved : {Value : Type 0} (old added new : List (Entry Value)) (fresh : List Key) → keys_of added ≡ fresh → IsPermutation (old ++ added) new → IsPermutation (keys_of old ++ fresh) (keys_of new)

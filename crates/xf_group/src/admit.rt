@@ -76,6 +76,9 @@ fn enter_keys<R: Reducer>(
     ensures room { length entries.new.items ≤ length numbers.new.items }
 {
     let fresh = fresh_keys(alloc, entries.as_slice(), keys)?;
+    if fresh.is_empty() {
+        return Ok(());
+    }
     let order = new_positions(alloc, entries.as_slice(), fresh.as_slice())?;
     let mut added = new_entries(alloc, reducer, fresh.as_slice())?;
     make_room(numbers, entries.len() + added.len())?;
