@@ -1,5 +1,5 @@
 -- New places of a group, and for which rows its values are ready.
-use Rattle.std.specs.Prelude.{◌≡◌, ℕ, Bool, true, List, Some}
+use Rattle.std.specs.Prelude.{◌≡◌, Bool, true, List, Some}
 use Rattle.std.specs.List.{AllByRecursion, AllZip}
 use Rattle.xf_base.specs.Schema.{IsRowOf}
 use Rattle.xf_base.specs.declared.cell.Cell.{Cell}

@@ -26,10 +26,10 @@ changed_meaning reducer undo true meaning row = reducer.step meaning row
 changed_meaning reducer undo false meaning row = undo meaning row
 
 -- a value that took the row in or gave it back: it stays ready for what it was ready for, and tells one call more
-pub record IsChanged {Value Meaning : Type 0} (meaning_of : Value → Meaning) (changed : Meaning → Meaning) (IsReady : Value → List Cell → Type 0) (calls : Option (Value → ℕ)) (old new : Value) : Type 0 where
+pub record IsChanged {Value Meaning : Type 0} (meaning_of : Value → Meaning) (changed : Meaning → Meaning) (IsReady : Value → List Cell → Type 0) (told : Option (Value → ℕ)) (old new : Value) : Type 0 where
   pub meaning : meaning_of new ≡ changed (meaning_of old)
   pub ready : StaysReady IsReady old new
-  pub calls : OneMoreCall calls old new
+  pub calls : OneMoreCall told old new
 
 -- a value that did so, or one that is as it was
 abbrev pub IsChangedIf : {Value Meaning : Type 0} → (Value → Meaning) → (Meaning → Meaning) → (Value → List Cell → Type 0) → Option (Value → ℕ) → Bool → Value → Value → Type 0

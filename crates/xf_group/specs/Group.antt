@@ -1,10 +1,9 @@
 -- What a group is seen as.
-use Rattle.std.specs.Prelude.{◌≡◌, ℕ, ℤ, Bool, List, [], flat_map, map, Option, Some, None, option_map, find, slice_get, unwrap_or}
+use Rattle.std.specs.Prelude.{◌≡◌, ℕ, ℤ, Bool, List, [], flat_map, map, Option, option_map, find, slice_get, unwrap_or}
 use Rattle.std.specs.List.{AllByRecursion, enumerate_from}
 use Rattle.std.specs.List.Sorted.{IsStrictlySortedBy}
 use Rattle.std.specs.Ordering.{is_eq}
 use Rattle.xf_base.specs.Key.{key_cmp}
-use Rattle.xf_base.specs.declared.cell.Cell.{Cell}
 use Rattle.xf_base.specs.declared.key.Key.{Key}
 use Rattle.xf_group.specs.declared.entry.Entry.{Entry}
 use Rattle.xf_model.specs.Group.{distinct_keys}

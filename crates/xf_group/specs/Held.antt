@@ -1,5 +1,5 @@
 -- Only proofs and the contracts of private functions need this file: what a group keeps.
-use Rattle.std.specs.Prelude.{◌≡◌, ℕ, ◌<◌, ◌≤◌, List, flat_map, length, map, slice_get}
+use Rattle.std.specs.Prelude.{ℕ, ◌<◌, ◌≤◌, List, flat_map, length, map, slice_get}
 use Rattle.std.specs.List.{AllByRecursion}
 use Rattle.std.specs.Option.{option_to_list}
 use Rattle.xf_base.specs.declared.key.Key.{Key}
@@ -26,7 +26,7 @@ abbrev pub grouped : {R Value : Type 0} → R → List (Entry Value) → List (L
 grouped reducer entries places = record { reducer = reducer; entries = entries; places = key_lists (keys_of entries) places }
 
 -- what a group keeps: its entries, the positions of each place's keys, and room to count as many as there are entries
-pub record HoldsGroup {R Value : Type 0} (reducer : R) (entries : List (Entry Value)) (places : List (List ℕ)) (room : ℕ) : Type 0 where
+pub record HoldsGroup {R Value : Type 0} (reducer : R) (entries : List (Entry Value)) (places : List (List ℕ)) (numbers : ℕ) : Type 0 where
   pub group : IsGroup (grouped reducer entries places)
   pub within : AreWithin (length entries) places
-  pub room : length entries ≤ room
+  pub room : length entries ≤ numbers

@@ -1,14 +1,17 @@
 //! New places: their keys among the group's own, and values that are ready for their rows.
-ghost use Rattle.std.specs.Prelude.{◌≡◌, ◌+◌, ◌*◌, ◌≤◌, ◌++◌, OnOk, true, flat_map, length, sum_by, take};
-ghost use Rattle.std.specs.List.{AllByRecursion};
-ghost use Rattle.std.specs.List.Sorted.{IsStrictlySortedBy};
+ghost use Rattle.std.specs.Prelude.{◌≡◌, ◌+◌, ◌*◌, ◌<◌, ◌≤◌, ◌^◌, [], ◌++◌, IfOk, OnOk, Some, true, flat_map, length, map, slice_get, sum_by, take};
+ghost use Rattle.std.specs.List.{AllByRecursion, prefix_len};
+ghost use Rattle.std.specs.List.Sorted.{IsPermutation, IsSortedByKey, IsStrictlySortedBy};
+ghost use Rattle.std.specs.Ordering.{is_lt};
 ghost use Rattle.xf_base.specs.Key.{key_cmp};
-ghost use Rattle.xf_group.specs.Admitted.{AreReady, SameMeanings, StayReady, SuitAll};
+ghost use Rattle.xf_group.specs.Admitted.{AreReady, IsReadyAt, SameMeanings, StayReady, SuitAll};
+ghost use Rattle.xf_group.specs.Fresh.{AreKept, fresh_keys, new_keys, new_positions};
 ghost use Rattle.xf_group.specs.Group.{meanings};
-ghost use Rattle.xf_group.specs.Held.{AreWithin, key_lists, keys_of};
+ghost use Rattle.xf_group.specs.Held.{AreWithin, key_lists, keys_at_positions, keys_of};
 ghost use Rattle.xf_model.specs.Digits.{digits};
 ghost use Rattle.xf_model.specs.Group.{distinct_keys};
 ghost use Rattle.xf_model.specs.Laws.{is_among};
+ghost use Rattle.xf_reduce.specs.Laws.{Suits};
 
 use crate::entry::Entry;
 use crate::search::find;
@@ -73,43 +76,59 @@ fn enter_keys<R: Reducer>(
     ensures room { length entries.new.items ≤ length numbers.new.items }
 {
     let fresh = fresh_keys(alloc, entries.as_slice(), keys)?;
-    let mut added = new_entries(alloc, reducer, fresh.as_slice())?;
-    let order = new_positions(alloc, entries.as_slice(), fresh.as_slice())?;
-    let count = entries.len() + added.len();
-    if numbers.len() < count {
-        numbers.resize(count, 0)?;
+    if fresh.is_empty() {
+        return Ok(());
     }
+    let order = new_positions(alloc, entries.as_slice(), fresh.as_slice())?;
+    let mut added = new_entries(alloc, reducer, fresh.as_slice())?;
+    make_room(numbers, entries.len() + added.len())?;
     entries.append(&mut added)?;
-    entries.sort_unstable_by(|one, other| one.key.cmp(&other.key));
+    sort_entries(entries);
     places.renumber(order.as_slice());
     Ok(())
 }
 
-/// The keys of the lists that are not among the entries, ascending and distinct.
+/// The keys of the lists that are not among the entries, ascending and each once.
 fn fresh_keys<'a, V>(
     alloc: Global,
     entries: &[Entry<V>],
     keys: &'a [KeyList],
-) -> Result<Vec<&'a Key>, OutOfMemory> {
-    let mut all = Vec::new(alloc);
+) -> Result<Vec<&'a Key>, OutOfMemory>
+    requires { IsStrictlySortedBy key_cmp (keys_of entries.now) }
+    ensures { IfOk result (λ found. map (λ key. key.now) found.items ≡ fresh_keys (keys_of entries.now) keys.now) }
+{
+    let mut found = new_keys(alloc, entries, keys)?;
+    found.sort_unstable();
+    found.dedup();
+    Ok(found)
+}
+
+/// The keys of the lists that are not among the entries, as they come.
+fn new_keys<'a, V>(
+    alloc: Global,
+    entries: &[Entry<V>],
+    keys: &'a [KeyList],
+) -> Result<Vec<&'a Key>, OutOfMemory>
+    requires { IsStrictlySortedBy key_cmp (keys_of entries.now) }
+    ensures { IfOk result (λ found. map (λ key. key.now) found.items ≡ new_keys (keys_of entries.now) keys.now) }
+{
+    let mut found = Vec::new(alloc);
     for list in keys {
         for key in list.as_slice() {
-            all.push(key)?;
+            if !is_known(entries, key) {
+                found.push(key)?;
+            }
         }
     }
-    all.sort_unstable();
-    let mut fresh = Vec::new(alloc);
-    let mut position = 0;
-    for key in all.as_slice() {
-        while position < entries.len() && entries[position].key < **key {
-            position += 1;
-        }
-        let is_old = position < entries.len() && entries[position].key == **key;
-        if !is_old && fresh.last() != Some(key) {
-            fresh.push(*key)?;
-        }
-    }
-    Ok(fresh)
+    Ok(found)
+}
+
+/// Whether a key is among the entries, by halves.
+fn is_known<V>(entries: &[Entry<V>], key: &Key) -> bool
+    requires { IsStrictlySortedBy key_cmp (keys_of entries.now) }
+    ensures { result ≡ is_among key_cmp (keys_of entries.now) key.now }
+{
+    entries.binary_search_by(|entry| entry.key.cmp(key)).is_ok()
 }
 
 /// An entry for each key, with the value of no rows.
@@ -117,7 +136,10 @@ fn new_entries<R: Reducer>(
     alloc: Global,
     reducer: &R,
     fresh: &[&Key],
-) -> Result<Vec<Entry<R::Value>>, OutOfMemory> {
+) -> Result<Vec<Entry<R::Value>>, OutOfMemory>
+    ensures keys { IfOk result (λ added. keys_of added.items ≡ map (λ key. key.now) fresh.now) }
+    ensures meanings { IfOk result (λ added. AllByRecursion (λ entry. R.meaning_of entry.value ≡ (R.folding reducer.now).initial) added.items) }
+{
     let mut added = Vec::with_capacity(alloc, fresh.len())?;
     for key in fresh {
         let key = key.copy(alloc)?;
@@ -132,16 +154,51 @@ fn new_positions<V>(
     alloc: Global,
     entries: &[Entry<V>],
     fresh: &[&Key],
-) -> Result<Vec<usize>, OutOfMemory> {
+) -> Result<Vec<usize>, OutOfMemory>
+    requires sorted { IsStrictlySortedBy key_cmp (keys_of entries.now) }
+    requires ascend { IsStrictlySortedBy key_cmp (map (λ key. key.now) fresh.now) }
+    requires few { length entries.now < 2 ^ 63 }
+    ensures { IfOk result (λ order. order.items ≡ new_positions (keys_of entries.now) (map (λ key. key.now) fresh.now)) }
+{
     let mut order = Vec::with_capacity(alloc, entries.len())?;
     let mut before = 0;
     for position in 0..entries.len() {
-        while before < fresh.len() && *fresh[before] < entries[position].key {
-            before += 1;
-        }
+        before += count_below(&fresh[before..], &entries[position].key);
         order.push(position + before)?;
     }
     Ok(order)
+}
+
+/// How many at the front are below a key.
+fn count_below(fresh: &[&Key], key: &Key) -> usize
+    ensures within { result ≤ length fresh.now }
+    ensures below { result ≡ prefix_len (λ other. is_lt (key_cmp other.now key.now)) fresh.now }
+{
+    for (place, other) in fresh.iter().enumerate() {
+        if **other >= *key {
+            return place;
+        }
+    }
+    fresh.len()
+}
+
+/// Makes room to count in as many as these.
+fn make_room(numbers: &mut Vec<usize>, count: usize) -> Result<(), OutOfMemory>
+    ensures room { OnOk result (count ≤ length numbers.new.items) }
+    ensures kept { length numbers.old.items ≤ length numbers.new.items }
+{
+    if numbers.len() < count {
+        numbers.resize(count, 0)?;
+    }
+    Ok(())
+}
+
+/// Puts entries in the order of their keys.
+fn sort_entries<V>(entries: &mut Vec<Entry<V>>)
+    ensures same { IsPermutation entries.old.items entries.new.items }
+    ensures sorted { IsSortedByKey (λ entry. entry.key) key_cmp entries.new.items }
+{
+    entries.sort_unstable_by(|one, other| one.key.cmp(&other.key));
 }
 
 /// Puts the positions of each list's keys as a new place, and makes their values ready for its row.
@@ -170,14 +227,64 @@ fn enter_places<R: Reducer, L: Ledger>(
 {
     let mut own = Vec::new(alloc);
     for place in 0..rows.len() {
-        for key in keys[place].as_slice() {
-            let Some(position) = find(entries.as_slice(), key, steps) else {
-                unreachable!()
-            };
-            own.push(position)?;
-            reducer.prepare(&mut entries[position].value, &rows[place])?;
-        }
+        enter_place(
+            reducer,
+            entries.as_mut_slice(),
+            &mut own,
+            &rows[place],
+            keys[place].as_slice(),
+            steps,
+        )?;
         places.push(&mut own)?;
     }
     Ok(())
+}
+
+/// Puts the positions of some keys, and makes their values ready for a row.
+fn enter_place<R: Reducer, L: Ledger>(
+    reducer: &R,
+    entries: &mut [Entry<R::Value>],
+    own: &mut Vec<usize>,
+    row: &Row,
+    keys: &[Key],
+    steps: &mut Steps<L>,
+) -> Result<(), OutOfMemory>
+    requires empty { own.old.items ≡ [] }
+    requires sorted { IsStrictlySortedBy key_cmp (keys_of entries.old) }
+    requires row { Suits (R.fits_to reducer.now) row.now }
+    requires there { AllByRecursion (λ key. is_among key_cmp (keys_of entries.old) key ≡ true) keys.now }
+    ensures positions { OnOk result (keys_at_positions (keys_of entries.new) own.new.items ≡ keys.now) }
+    ensures within { OnOk result (AllByRecursion (λ position. position < length entries.new) own.new.items) }
+    ensures ready { OnOk result (AllByRecursion (λ key. IsReadyAt (R.IsReady reducer.now) entries.new key row.now) keys.now) }
+    ensures kept { AreKept R.meaning_of (R.IsReady reducer.now) entries.old entries.new }
+    ensures cost { OnOk result (steps.new ≤ steps.old + digits (length entries.new) * length keys.now) }
+{
+    for key in keys {
+        let position = enter_key(reducer, entries, row, key, steps)?;
+        own.push(position)?;
+    }
+    Ok(())
+}
+
+/// The position of a key, whose value is made ready for a row.
+fn enter_key<R: Reducer, L: Ledger>(
+    reducer: &R,
+    entries: &mut [Entry<R::Value>],
+    row: &Row,
+    key: &Key,
+    steps: &mut Steps<L>,
+) -> Result<usize, OutOfMemory>
+    requires sorted { IsStrictlySortedBy key_cmp (keys_of entries.old) }
+    requires row { Suits (R.fits_to reducer.now) row.now }
+    requires there { is_among key_cmp (keys_of entries.old) key.now ≡ true }
+    ensures position { IfOk result (λ position. slice_get (keys_of entries.new) position ≡ Some key.now) }
+    ensures ready { OnOk result (IsReadyAt (R.IsReady reducer.now) entries.new key.now row.now) }
+    ensures kept { AreKept R.meaning_of (R.IsReady reducer.now) entries.old entries.new }
+    ensures cost { steps.new ≤ steps.old + digits (length entries.old) }
+{
+    let Some(position) = find(entries, key, steps) else {
+        unreachable!()
+    };
+    reducer.prepare(&mut entries[position].value, row)?;
+    Ok(position)
 }

@@ -9,6 +9,7 @@ pub struct Entry<V> {
 }
 
 /// A key with its value, lent.
+#[derive(Drop)]
 pub struct GroupEntry<'a, V> {
     pub key: &'a Key,
     pub value: &'a V,

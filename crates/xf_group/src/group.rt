@@ -1,12 +1,15 @@
 //! A group: what is kept, and its calls.
-ghost use Rattle.std.specs.Prelude.{◌≡◌, ◌+◌, ◌*◌, ◌<◌, ◌≤◌, Bool, [], ◌++◌, IfOk, OnErr, OnOk, Some, filter, flat_map, length, option_copied, slice_get, sum_by, take};
+ghost use Rattle.std.specs.Prelude.{◌≡◌, ◌+◌, ◌*◌, ◌<◌, ◌≤◌, [], ◌++◌, IfOk, OnErr, OnOk, Some, filter, flat_map, length, map, option_copied, slice_get, sum_by, take};
 ghost use Rattle.std.specs.List.{AllByRecursion};
 ghost use Rattle.std.specs.List.Sorted.{IsStrictlySortedBy};
+ghost use Rattle.std.specs.Ordering.{nat_cmp};
 ghost use Rattle.xf_base.specs.Gone.{kept};
 ghost use Rattle.xf_base.specs.Key.{key_cmp};
 ghost use Rattle.xf_group.specs.Admitted.{AreReady, StayReady, SuitAll};
-ghost use Rattle.xf_group.specs.Changed.{AreChanged, MayChangeAll, changed_meaning};
+ghost use Rattle.xf_group.specs.Changed.{AreChanged, IsChanged, MayChange, MayChangeAll, changed_meaning};
+ghost use Rattle.xf_group.specs.ChangedAt.{AreChangedAt, MayChangeAt};
 ghost use Rattle.xf_group.specs.Group.{keys_at, meanings, meanings_for, ranked_positions, value_at};
+ghost use Rattle.xf_group.specs.Ranks.{ranks_at};
 ghost use Rattle.xf_model.specs.Digits.{digits};
 ghost use Rattle.xf_model.specs.Laws.{is_among};
 
@@ -114,18 +117,11 @@ impl<R: Reducer> Group<R> {
         ensures positions { IfOk result (λ v. v.items ≡ take k (ranked_positions (λ value. R.rank_of self.now.reducer (R.meaning_of value) field) self.now.entries)) }
         ensures cost { steps.new ≤ steps.old + length self.now.entries }
     {
-        let mut ranks = Vec::with_capacity(self.alloc, self.entries.len())?;
-        for position in 0..self.entries.len() {
-            let entry = self.at(position, steps);
-            ranks.push((Reverse(self.reducer.rank(entry.value, field)), position))?;
-        }
+        let entries = self.entries.as_slice();
+        let mut ranks = ranks_of(self.alloc, &self.reducer, entries, field, steps)?;
         ranks.sort_unstable();
         ranks.truncate(k);
-        let mut positions = Vec::with_capacity(self.alloc, ranks.len())?;
-        for (_, position) in ranks.as_slice() {
-            positions.push(*position)?;
-        }
-        Ok(positions)
+        positions_of(self.alloc, ranks.as_slice())
     }
 
     /// Enters new places after the old ones, with the keys of each. Keys that are new get the value of no rows, and the
@@ -177,7 +173,14 @@ impl<R: Reducer> Group<R> {
         ensures changed { AreChanged R.meaning_of (λ meaning. changed_meaning (R.folding self.old.reducer) (R.undo self.old.reducer) on meaning row.now) (R.IsReady self.old.reducer) R.calls (keys_at self.old place) self.old.entries self.new.entries }
         ensures cost { steps.new ≡ steps.old + length (keys_at self.old place) }
     {
-        change_each(&self.reducer, self.entries.as_mut_slice(), self.places.list(place), row, on, steps);
+        change_each(
+            &self.reducer,
+            self.entries.as_mut_slice(),
+            self.places.list(place),
+            row,
+            on,
+            steps,
+        );
     }
 
     /// Takes the places away that are gone, and the keys that no place has any more. The values of the keys that stay do
@@ -201,13 +204,65 @@ fn change_each<R: Reducer, L: Ledger>(
     row: &Row,
     on: bool,
     steps: &mut Steps<L>,
-) {
+)
+    requires ascend { IsStrictlySortedBy nat_cmp positions.now }
+    requires within { AllByRecursion (λ position. position < length entries.old) positions.now }
+    requires may { MayChangeAt R.meaning_of (R.fits_to reducer.now) (R.folding reducer.now) (R.IsReady reducer.now) positions.now on row.now entries.old }
+    ensures changed { AreChangedAt R.meaning_of (λ meaning. changed_meaning (R.folding reducer.now) (R.undo reducer.now) on meaning row.now) (R.IsReady reducer.now) R.calls positions.now entries.old entries.new }
+    ensures cost { steps.new ≡ steps.old + length positions.now }
+{
     for position in positions {
-        let value = &mut entries[*position].value;
-        if on {
-            reducer.add(value, row, steps);
-        } else {
-            reducer.remove(value, row, steps);
-        }
+        change_one(reducer, &mut entries[*position].value, row, on, steps);
     }
+}
+
+/// Adds a row to a value, or takes it back.
+fn change_one<R: Reducer, L: Ledger>(
+    reducer: &R,
+    value: &mut R::Value,
+    row: &Row,
+    on: bool,
+    steps: &mut Steps<L>,
+)
+    requires may { MayChange (R.fits_to reducer.now) (R.folding reducer.now) on (R.meaning_of value.old) row.now }
+    requires ready { R.IsReady reducer.now value.old row.now }
+    ensures changed { IsChanged R.meaning_of (λ meaning. changed_meaning (R.folding reducer.now) (R.undo reducer.now) on meaning row.now) (R.IsReady reducer.now) R.calls value.old value.new }
+    ensures cost { steps.new ≡ steps.old + 1 }
+{
+    if on {
+        reducer.add(value, row, steps);
+    } else {
+        reducer.remove(value, row, steps);
+    }
+}
+
+/// For each entry the rank of its value in a field, with its position.
+fn ranks_of<R: Reducer, L: Ledger>(
+    alloc: Global,
+    reducer: &R,
+    entries: &[Entry<R::Value>],
+    field: u8,
+    steps: &mut Steps<L>,
+) -> Result<Vec<(Reverse<i128>, usize)>, OutOfMemory>
+    requires { field < R.field_count reducer.now }
+    ensures ranks { IfOk result (λ v. map (λ at. (at.0.0, at.1)) v.items ≡ ranks_at (λ value. R.rank_of reducer.now (R.meaning_of value) field) entries.now) }
+    ensures cost { steps.new ≤ steps.old + length entries.now }
+{
+    let mut ranks = Vec::with_capacity(alloc, entries.len())?;
+    for (position, entry) in entries.iter().enumerate() {
+        steps.tick();
+        ranks.push((Reverse(reducer.rank(&entry.value, field)), position))?;
+    }
+    Ok(ranks)
+}
+
+/// The positions of ranks.
+fn positions_of(alloc: Global, ranks: &[(Reverse<i128>, usize)]) -> Result<Vec<usize>, OutOfMemory>
+    ensures { IfOk result (λ v. v.items ≡ map (λ at. at.1) ranks.now) }
+{
+    let mut positions = Vec::with_capacity(alloc, ranks.len())?;
+    for (_, position) in ranks {
+        positions.push(*position)?;
+    }
+    Ok(positions)
 }

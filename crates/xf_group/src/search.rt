@@ -1,5 +1,5 @@
 //! Where a key stands among ascending entries.
-ghost use Rattle.std.specs.Prelude.{◌≡◌, ◌+◌, ◌≤◌, Some, length, option_map, IfSome, OnNone, None};
+ghost use Rattle.std.specs.Prelude.{◌≡◌, ◌+◌, ◌≤◌, length};
 ghost use Rattle.std.specs.List.Sorted.{IsStrictlySortedBy};
 ghost use Rattle.xf_base.specs.Key.{key_cmp};
 ghost use Rattle.xf_group.specs.Group.{is_entry_of};
