@@ -58,10 +58,14 @@ even_cell-few (Some (cell.Text text)) = omega arith
 even_cell-few (Some (cell.Tags tags)) = omega arith
 even_cell-few None = omega arith
 
+-- a row counts once at most
+pub even_first-few : (row : List Cell) → even_first row ≤ 1
+even_first-few row = even_cell-few (slice_get row 0)
+
 fold-few : (start : ℕ) (rows : List (List Cell)) → fold (λ count row. count + even_first row) start rows ≤ start + length rows
 fold-few start [] = omega arith
 fold-few start (row ∷ rows) =
-    let here = even_cell-few (slice_get row 0) in
+    let here = even_first-few row in
     let rest = fold-few (start + even_first row) rows in
     omega arith
 
@@ -76,4 +80,4 @@ evens_within columns rows field fit all few within = count_is_rank (fold_of even
 
 -- a count to which a row comes
 pub evens-before : (value : ℕ) (row : List Cell) → IsFoldBefore (fits_at 0) evens value row → value + even_first row ≤ ROWS
-evens-before value row before = omega (arith, before.folded, before.few, evens-few before.rows, even_cell-few (slice_get row 0))
+evens-before value row before = omega (arith, before.folded, before.few, evens-few before.rows, even_first-few row)

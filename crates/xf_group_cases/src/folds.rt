@@ -32,7 +32,7 @@ pub(crate) fn row_of(alloc: Global, whole: i64, cents: i64) -> Result<Row, OutOf
     Ok(row)
 }
 
-fn rows_of(alloc: Global, numbers: &[(i64, i64)]) -> Result<RowList, OutOfMemory> {
+pub(crate) fn rows_of(alloc: Global, numbers: &[(i64, i64)]) -> Result<RowList, OutOfMemory> {
     let mut rows = RowList::new(alloc);
     for (whole, cents) in numbers {
         rows.push(row_of(alloc, *whole, *cents)?)?;

@@ -9,6 +9,8 @@ mod bounds;
 #[cfg(test)]
 mod folds;
 #[cfg(test)]
+mod groups;
+#[cfg(test)]
 mod own;
 #[cfg(test)]
 mod parts;

@@ -18,7 +18,7 @@ impl Evens {
     ghost use Rattle.xf_group_cases.specs.Own.{even_first};
 
     /// 1 for a row that counts, and 0 for another.
-    fn count_of(row: &Row) -> u64
+    pub(crate) fn count_of(row: &Row) -> u64
         ensures { result ≡ even_first row.now }
     {
         match row.at(0) {
