@@ -64,16 +64,15 @@ pub trait Part: Drop {
         ensures meaning { meaning_of value.new ≡ meaning_of value.old }
         ensures kept { StaysReady (IsReady self.now) value.old value.new };
 
-    /// One row more. The value must be ready for it, and mean the fold of fewer rows than a
-    /// million. It takes no memory.
+    /// One row more. The value must be ready for it, and mean the fold of fewer rows than a million. It takes no memory.
     fn add(&self, value: &mut Self::Value, row: &Row)
         requires folded { IsFoldBefore (fits_to self.now) (folding self.now) (meaning_of value.old) row.now }
         requires ready { IsReady self.now value.old row.now }
         ensures meaning { meaning_of value.new ≡ (folding self.now).step (meaning_of value.old) row.now }
         ensures kept { StaysReady (IsReady self.now) value.old value.new };
 
-    /// One row less. The value must be ready for it, and mean the fold of at most a million rows
-    /// of which it is one. It takes no memory.
+    /// One row less. The value must be ready for it, and mean the fold of at most a million rows of which it is one. It
+    /// takes no memory.
     fn remove(&self, value: &mut Self::Value, row: &Row)
         requires folded { IsFoldWith (fits_to self.now) (folding self.now) (meaning_of value.old) row.now }
         requires ready { IsReady self.now value.old row.now }

@@ -24,18 +24,22 @@ pub enum Simple {
     Spread(usize),
 }
 
-/// What any of the parts keeps; a part changes its own field alone. One struct serves all, so no value is of another part
-/// than its reducer.
+/// What any of the parts keeps. Each part changes only what it keeps itself; one struct serves all, so that no value is of
+/// another part than its reducer.
 #[derive(Drop)]
 pub struct SimpleValue {
+    /// The sums and the count.
     pub squares: SquareTotals,
+    /// The numbers of a spread.
     pub numbers: Tallies,
 }
 
-/// What that means.
+/// The meaning of a `SimpleValue`.
 #[derive(Drop)]
 pub struct SimpleMeaning {
+    /// The sums and the count.
     pub squares: SquareTotals,
+    /// The numbers of a spread, ascending.
     pub numbers: ListOf<i64>,
 }
 

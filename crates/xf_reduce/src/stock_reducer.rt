@@ -12,18 +12,20 @@ use xf_base::{ColumnKind, OutOfMemory, Row, Schema, Steps};
 /// A reducer of the stock: one part, or two side by side, with the fields of the first before those of the second.
 #[derive(Clone, Copy, Debug, PartialEq, Eq)]
 pub enum StockReducer {
+    /// One part.
     One(Simple),
+    /// Two parts, each of which sees every row.
     Two(Simple, Simple),
 }
 
-/// What it keeps.
+/// What a reducer of the stock keeps, of the same shape.
 #[derive(Drop)]
 pub enum StockValue {
     One(SimpleValue),
     Two(SimpleValue, SimpleValue),
 }
 
-/// What that means.
+/// The meaning of a `StockValue`.
 #[derive(Drop)]
 pub enum StockMeaning {
     One(SimpleMeaning),
@@ -151,7 +153,7 @@ impl Reducer for StockReducer {
                 first.prepare(one, row)?;
                 second.prepare(other, row)
             }
-            // No value is of another shape than its reducer.
+            // A value of another shape than the reducer stays as it is.
             _ => Ok(()),
         }
     }
@@ -191,6 +193,7 @@ impl Reducer for StockReducer {
                     second.rank(other, field - fields)
                 }
             }
+            // A value of another shape than the reducer has no fields.
             _ => 0,
         }
     }

@@ -4,7 +4,7 @@ use crate::part::Part;
 use std::alloc::Global;
 use xf_base::{OutOfMemory, Row, Schema};
 
-/// A sum, and of how many numbers it is one.
+/// A sum, and how many numbers are in it.
 #[derive(Clone, Copy, Debug, PartialEq, Eq)]
 pub struct Totals {
     pub sum: i128,

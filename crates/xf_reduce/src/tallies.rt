@@ -15,8 +15,11 @@ use xf_base::OutOfMemory;
 /// entered stays in the list, also where it is there 0 times, so that it comes and goes without memory.
 #[derive(Drop)]
 pub struct Tallies {
+    /// How often each number that is entered is there, which may be 0 times.
     counts: BTreeMap<i64, u64>,
+    /// How many numbers are there at least once.
     distinct: u64,
+    /// How many numbers are there, each as often as it is.
     total: u64,
 }
 
@@ -55,7 +58,7 @@ impl Tallies {
         Ok(())
     }
 
-    /// A number that is entered once more, in logarithmic time. It takes no memory.
+    /// One more of a number that is entered, in logarithmic time. It takes no memory.
     pub fn add(&mut self, number: i64)
         requires entered { HasTally self.old number }
         requires few { length (numbers_in self.old) < 2 ^ 63 }
@@ -70,7 +73,7 @@ impl Tallies {
         }
     }
 
-    /// A number that is entered once less, where it is there, in logarithmic time. It takes no memory.
+    /// One less of a number that is entered, and nothing where it is there 0 times, in logarithmic time. It takes no memory.
     pub fn remove(&mut self, number: i64)
         requires entered { HasTally self.old number }
         ensures numbers { numbers_in self.new ≡ without_number number (numbers_in self.old) }
@@ -115,7 +118,8 @@ impl Tallies {
         self.at(self.total.saturating_sub(1) / 2)
     }
 
-    /// The number at a place of the ascending list, and 0 where it ends before. It walks over the numbers before.
+    /// The number at a place of the ascending list, and 0 where it ends before. It walks over the numbers that are
+    /// entered before it.
     fn at(&self, place: u64) -> i64
         ensures { result ≡ number_in_place (numbers_in self.now) place }
     {
@@ -144,5 +148,6 @@ fn recount(counts: &mut BTreeMap<i64, u64>, number: i64, count: u64)
     ensures entries { counts.new.entries ≡ insert_entry int_cmp counts.old.entries number count }
     ensures kept { StaysEntered counts.old.entries counts.new.entries }
 {
+    // The number is there, so its count is replaced and nothing grows.
     let _old = counts.insert(number, count);
 }
