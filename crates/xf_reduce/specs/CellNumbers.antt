@@ -1,4 +1,4 @@
--- The number in a column of numbers is one that a cell may hold.
+-- Only proofs need this file: the number in a column of numbers is one that a cell may hold.
 use Rattle.std.proofs.Common.{◌≡◌, ℕ, ◌*◌, ◌≤◌, true, ℤ, nat_abs, ◌*ℤ◌, List, Option, Some, None, IsSomeAnd, MatchOption, slice_get, arith, mul-le-mul}
 use Rattle.std.proofs.lemmas.Int.{ints, unsigned_abs-mul}
 use Rattle.std.proofs.lemmas.Slice.Zip.{AllZip-left}

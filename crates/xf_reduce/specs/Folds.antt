@@ -1,4 +1,4 @@
--- What folds of rows keep, and how large their numbers may become.
+-- Only proofs need this file: what folds of rows keep, and how large their numbers may become.
 use Rattle.std.proofs.Common.{◌≡◌, ℕ, ◌+◌, ◌*◌, ◌≤◌, ℤ, nat_abs, ◌+ℤ◌, ◌-ℤ◌, List, [], ◌∷◌, length, fold, refl, ap, ◌∙◌, arith}
 use Rattle.std.proofs.lemmas.Int.{ints}
 use Rattle.std.specs.List.{AllByRecursion}

@@ -1,4 +1,4 @@
--- The laws of the part of the stock that keeps numbers.
+-- Only proofs need this file: the laws of the part of the stock that keeps numbers.
 use Rattle.std.proofs.Common.{◌≡◌, ℕ, zero, suc, ◌+◌, ◌-◌, ◌/◌, ◌≤◌, Bool, true, false, ◌==◌, if◌then◌else◌, ℤ, pos, nat_abs, List, [], ◌∷◌, length, fold, Less, Equal, Greater, refl, sym, ap, ◌∙◌, lit≤, arith}
 use Rattle.std.specs.FinMap.{int_cmp-IsAntisymmetric}
 use Rattle.std.specs.List.{AllByRecursion}

@@ -1,4 +1,4 @@
--- Reducers of lawful parts are lawful.
+-- Only proofs need this file: reducers of lawful parts are lawful.
 use Rattle.std.proofs.Common.{◌≡◌, ℕ, ◌+◌, ◌-◌, ◌<◌, ◌≤◌, nat_lt, ℤ, Bool, ◌&&◌, if◌then◌else◌, List, refl, sym, subst, arith}
 use Rattle.std.proofs.lemmas.Bool.{and_parts, cond_both}
 use Rattle.std.proofs.lemmas.Bool.Decides.{nat_tests}

@@ -1,4 +1,4 @@
--- The laws of any part of the stock: those of the part that it is.
+-- Only proofs need this file: the laws of any part of the stock: those of the part that it is.
 use Rattle.std.proofs.Common.{◌≡◌, ℕ, ◌≤◌, ℤ, List, refl, sym, subst, lit≤}
 use Rattle.xf_base.specs.declared.cell.Cell.{Cell}
 use Rattle.xf_model.specs.Group.{count, fold_of}

@@ -1,4 +1,4 @@
--- The laws of the parts of the stock that keep sums and counts.
+-- Only proofs need this file: the laws of the parts of the stock that keep sums and counts.
 use Rattle.std.proofs.Common.{◌≡◌, ℕ, zero, suc, ◌+◌, ◌-◌, ◌*◌, ◌^◌, ◌==◌, ◌≤◌, ℤ, pos, negsuc, nat_abs, ◌+ℤ◌, ◌*ℤ◌, true, false, if◌then◌else◌, List, length, refl, ◌∙◌, arith, lit≤}
 use Rattle.std.specs.Int.{int_div_euclid}
 use Rattle.std.proofs.lemmas.Bool.{cond_both}

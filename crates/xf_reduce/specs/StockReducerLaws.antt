@@ -1,4 +1,4 @@
--- The laws of the reducers of the stock: those of their parts.
+-- Only proofs need this file: the laws of the reducers of the stock: those of their parts.
 use Rattle.std.proofs.Common.{◌≡◌, ◌-◌, ◌<◌, ◌≤◌, List, [], ◌∷◌, fold, refl, sym, subst}
 use Rattle.std.proofs.lemmas.Bool.{and_parts}
 use Rattle.xf_base.specs.declared.cell.Cell.{Cell}

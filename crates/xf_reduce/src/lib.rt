@@ -2,8 +2,8 @@
 //!
 //! Two traits whose laws every implementation proves: a `Reducer` is what a group or a whole has, and a `Part` is what
 //! a reducer is made of. The stock of both is what boards and sessions name. It stands on the rows and schemas of the
-//! base, and on the folds of the definitions. Its one promise: a value means the fold of its rows from nothing, whatever
-//! rows came and went before, and in whatever order.
+//! base, and on the folds of the definitions. Its one promise: the laws by which a value means the fold of its rows from
+//! nothing, whatever rows came and went before, and in whatever order.
 #![tactic(auto)]
 
 mod alone;

@@ -79,7 +79,8 @@ pub trait Part: Drop {
         ensures meaning { meaning_of value.new ≡ undo self.now (meaning_of value.old) row.now }
         ensures kept { StaysReady (IsReady self.now) value.old value.new };
 
-    /// The number in a field. It takes no memory.
+    /// The number in a field below `fields`, in units of the last of the field's decimals. Of a fold of at most a million
+    /// rows it lies within -10^36 to 10^36. It takes no memory.
     fn rank(&self, value: &Self::Value, field: u8) -> i128
         requires { field < field_count self.now }
         ensures { result ≡ rank_of self.now (meaning_of value.now) field };

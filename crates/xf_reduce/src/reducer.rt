@@ -42,7 +42,8 @@ pub trait Reducer: Drop {
     /// Whether a row may come or go without memory.
     ghost IsReady: { Self → Self.Value → List Cell → Type 0 };
 
-    /// How often rows came and went, where a value tells it. It is no part of the meaning.
+    /// How often rows came and went, where a value tells it; the number stands still at 2^64 - 1. It is no part of the
+    /// meaning.
     ghost calls: { Option (Self.Value → ℕ) };
 
     /// The same reducer once more. Only want of memory is an error.
@@ -92,7 +93,8 @@ pub trait Reducer: Drop {
         ensures calls { OneMoreCall calls value.old value.new }
         ensures cost { steps.new ≡ steps.old + 1 };
 
-    /// The number in a field. It takes no memory.
+    /// The number in a field below `fields`, in units of the last of the field's decimals. Of a fold of at most a million
+    /// rows it lies within -10^36 to 10^36. It takes no memory.
     fn rank(&self, value: &Self::Value, field: u8) -> i128
         requires { field < field_count self.now }
         ensures { result ≡ rank_of self.now (meaning_of value.now) field };

@@ -4,7 +4,7 @@ use crate::part::Part;
 use std::alloc::Global;
 use xf_base::{OutOfMemory, Row, Schema};
 
-/// A sum, and how many numbers are in it.
+/// A sum, within -10^21 to 10^21 over a million rows, and how many numbers are in it.
 #[derive(Clone, Copy, Debug, PartialEq, Eq)]
 pub struct Totals {
     pub sum: i128,

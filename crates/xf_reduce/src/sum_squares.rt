@@ -5,7 +5,7 @@ use crate::sum_count::{SumCount, Totals};
 use std::alloc::Global;
 use xf_base::{OutOfMemory, Row, Schema};
 
-/// A sum of squares, with the totals of the numbers.
+/// A sum of squares, up to 10^36 over a million rows, with the totals of the numbers.
 #[derive(Clone, Copy, Debug, PartialEq, Eq)]
 pub struct SquareTotals {
     pub squares: i128,
