@@ -27,7 +27,7 @@ pub use part::Part;
 pub use reducer::Reducer;
 pub use simple::{Simple, SimpleMeaning, SimpleValue};
 pub use spread::Spread;
-pub use stock_reducer::{StockMeaning, StockReducer, StockValue};
+pub use stock_reducer::StockReducer;
 pub use sum::Sum;
 pub use sum_count::{SumCount, Totals};
 pub use sum_squares::{SquareTotals, SumSquares};

@@ -2,6 +2,8 @@
 ghost use Rattle.std.specs.Prelude.{◌≡◌, ◌≤◌, true, slice_get};
 ghost use Rattle.xf_reduce.specs.StockReducer.{column_decimals, simple_decimals};
 
+use crate::alone::Alone;
+use crate::both::Both;
 use crate::part::Part;
 use crate::reducer::Reducer;
 use crate::simple::{Simple, SimpleMeaning, SimpleValue};
@@ -9,27 +11,14 @@ use std::alloc::Global;
 use std::sync::ledger::Ledger;
 use xf_base::{ColumnKind, OutOfMemory, Row, Schema, Steps};
 
-/// A reducer of the stock: one part, or two side by side, with the fields of the first before those of the second.
+/// A reducer of the stock: one part, or two side by side, with the fields of the first before those of the second. Its
+/// value is a pair in both cases, of which one part alone leaves the second as it was.
 #[derive(Clone, Copy, Debug, PartialEq, Eq)]
 pub enum StockReducer {
     /// One part.
     One(Simple),
     /// Two parts, each of which sees every row.
     Two(Simple, Simple),
-}
-
-/// What a reducer of the stock keeps, of the same shape.
-#[derive(Drop)]
-pub enum StockValue {
-    One(SimpleValue),
-    Two(SimpleValue, SimpleValue),
-}
-
-/// The meaning of a `StockValue`.
-#[derive(Drop)]
-pub enum StockMeaning {
-    One(SimpleMeaning),
-    Two(SimpleMeaning, SimpleMeaning),
 }
 
 impl StockReducer {
@@ -90,9 +79,9 @@ impl Reducer for StockReducer {
     ghost use Rattle.xf_reduce.specs.StockReducer.{IsStockReady, stock_field, stock_field_count, stock_fits, stock_less, stock_meaning, stock_of};
     ghost use Rattle.xf_reduce.specs.StockReducerLaws.{stock_few, stock_swaps, stock_takes_back, stock_within};
 
-    type Value = StockValue;
+    type Value = (SimpleValue, SimpleValue);
 
-    type Meaning = StockMeaning;
+    type Meaning = (SimpleMeaning, SimpleMeaning);
 
     ghost meaning_of = { stock_meaning };
 
@@ -124,77 +113,61 @@ impl Reducer for StockReducer {
 
     fn fits(&self, schema: &Schema) -> bool {
         match self {
-            StockReducer::One(part) => part.fits(schema),
-            StockReducer::Two(first, second) => first.fits(schema) && second.fits(schema),
+            StockReducer::One(part) => Alone(*part).fits(schema),
+            StockReducer::Two(first, second) => Both(*first, *second).fits(schema),
         }
     }
 
     fn fields(&self) -> u8 {
         match self {
-            StockReducer::One(part) => part.fields(),
-            StockReducer::Two(first, second) => first.fields() + second.fields(),
+            StockReducer::One(part) => Alone(*part).fields(),
+            StockReducer::Two(first, second) => Both(*first, *second).fields(),
         }
     }
 
-    fn initial(&self, alloc: Global) -> Result<StockValue, OutOfMemory> {
+    fn initial(&self, alloc: Global) -> Result<(SimpleValue, SimpleValue), OutOfMemory> {
+        Both(Simple::Count, Simple::Count).initial(alloc)
+    }
+
+    fn prepare(
+        &self,
+        value: &mut (SimpleValue, SimpleValue),
+        row: &Row,
+    ) -> Result<(), OutOfMemory> {
         match self {
-            StockReducer::One(part) => Ok(StockValue::One(part.initial(alloc)?)),
-            StockReducer::Two(first, second) => {
-                let one = first.initial(alloc)?;
-                Ok(StockValue::Two(one, second.initial(alloc)?))
-            }
+            StockReducer::One(part) => Alone(*part).prepare(&mut value.0, row),
+            StockReducer::Two(first, second) => Both(*first, *second).prepare(value, row),
         }
     }
 
-    fn prepare(&self, value: &mut StockValue, row: &Row) -> Result<(), OutOfMemory> {
-        match (self, value) {
-            (StockReducer::One(part), StockValue::One(kept)) => part.prepare(kept, row),
-            (StockReducer::Two(first, second), StockValue::Two(one, other)) => {
-                first.prepare(one, row)?;
-                second.prepare(other, row)
-            }
-            // A value of another shape than the reducer stays as it is.
-            _ => Ok(()),
+    fn add<L: Ledger>(
+        &self,
+        value: &mut (SimpleValue, SimpleValue),
+        row: &Row,
+        steps: &mut Steps<L>,
+    ) {
+        match self {
+            StockReducer::One(part) => Alone(*part).add(&mut value.0, row, steps),
+            StockReducer::Two(first, second) => Both(*first, *second).add(value, row, steps),
         }
     }
 
-    fn add<L: Ledger>(&self, value: &mut StockValue, row: &Row, steps: &mut Steps<L>) {
-        steps.tick();
-        match (self, value) {
-            (StockReducer::One(part), StockValue::One(kept)) => part.add(kept, row),
-            (StockReducer::Two(first, second), StockValue::Two(one, other)) => {
-                first.add(one, row);
-                second.add(other, row);
-            }
-            _ => unreachable!(),
+    fn remove<L: Ledger>(
+        &self,
+        value: &mut (SimpleValue, SimpleValue),
+        row: &Row,
+        steps: &mut Steps<L>,
+    ) {
+        match self {
+            StockReducer::One(part) => Alone(*part).remove(&mut value.0, row, steps),
+            StockReducer::Two(first, second) => Both(*first, *second).remove(value, row, steps),
         }
     }
 
-    fn remove<L: Ledger>(&self, value: &mut StockValue, row: &Row, steps: &mut Steps<L>) {
-        steps.tick();
-        match (self, value) {
-            (StockReducer::One(part), StockValue::One(kept)) => part.remove(kept, row),
-            (StockReducer::Two(first, second), StockValue::Two(one, other)) => {
-                first.remove(one, row);
-                second.remove(other, row);
-            }
-            _ => unreachable!(),
-        }
-    }
-
-    fn rank(&self, value: &StockValue, field: u8) -> i128 {
-        match (self, value) {
-            (StockReducer::One(part), StockValue::One(kept)) => part.rank(kept, field),
-            (StockReducer::Two(first, second), StockValue::Two(one, other)) => {
-                let fields = first.fields();
-                if field < fields {
-                    first.rank(one, field)
-                } else {
-                    second.rank(other, field - fields)
-                }
-            }
-            // A value of another shape than the reducer has no fields.
-            _ => 0,
+    fn rank(&self, value: &(SimpleValue, SimpleValue), field: u8) -> i128 {
+        match self {
+            StockReducer::One(part) => Alone(*part).rank(&value.0, field),
+            StockReducer::Two(first, second) => Both(*first, *second).rank(value, field),
         }
     }
 }
