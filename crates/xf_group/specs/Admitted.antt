@@ -14,7 +14,7 @@ pub record SuitAll (fits : List Column → Bool) (rows : List (List Cell)) : Typ
   pub fit : fits columns ≡ true
   pub of_schema : AllByRecursion (IsRowOf columns) rows
 
--- each key's value means what it did; that of a key that is new means nothing yet
+-- each key's value means what it did; that of a key that is new means what no rows mean
 abbrev pub SameMeanings : {Value Meaning : Type 0} → (Value → Meaning) → Meaning → List (Entry Value) → List (Entry Value) → Type 0
 SameMeanings meaning_of nothing old new = (key : Key) → meaning_at meaning_of nothing new key ≡ meaning_at meaning_of nothing old key
 

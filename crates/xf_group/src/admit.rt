@@ -1,11 +1,11 @@
 //! New places: their keys among the group's own, and values that are ready for their rows.
-ghost use Rattle.std.specs.Prelude.{◌≡◌, ◌+◌, ◌*◌, ◌<◌, ◌≤◌, ◌^◌, [], ◌++◌, IfOk, OnOk, Some, true, flat_map, length, map, slice_get, sum_by, take};
+ghost use Rattle.std.specs.Prelude.{◌≡◌, ◌+◌, ◌*◌, ◌<◌, ◌≤◌, ◌^◌, [], ◌++◌, IfOk, OnOk, Some, true, filter, flat_map, length, map, not, slice_get, sum_by, take};
 ghost use Rattle.std.specs.List.{AllByRecursion, prefix_len};
 ghost use Rattle.std.specs.List.Sorted.{IsPermutation, IsSortedByKey, IsStrictlySortedBy};
 ghost use Rattle.std.specs.Ordering.{is_lt};
 ghost use Rattle.xf_base.specs.Key.{key_cmp};
 ghost use Rattle.xf_group.specs.Admitted.{AreReady, IsReadyAt, SameMeanings, StayReady, SuitAll};
-ghost use Rattle.xf_group.specs.Fresh.{AreKept, fresh_keys, new_keys, new_positions};
+ghost use Rattle.xf_group.specs.Fresh.{AreKept, fresh_keys, new_positions};
 ghost use Rattle.xf_group.specs.Group.{meanings};
 ghost use Rattle.xf_group.specs.Held.{AreWithin, key_lists, keys_at_positions, keys_of};
 ghost use Rattle.xf_model.specs.Digits.{digits};
@@ -21,7 +21,8 @@ use xf_base::{Key, KeyList, OutOfMemory, Row, Steps};
 use xf_lists::Lists;
 use xf_reduce::Reducer;
 
-/// Enters new places after the old ones. Without memory some may stand there, and keys that no place has.
+/// Enters new places after the old ones. Without memory the first of the new places may stand, and keys that no place has;
+/// the caller takes both away.
 pub fn enter<R: Reducer, L: Ledger>(
     alloc: Global,
     reducer: &R,
@@ -97,38 +98,67 @@ fn fresh_keys<'a, V>(
     requires { IsStrictlySortedBy key_cmp (keys_of entries.now) }
     ensures { IfOk result (λ found. map (λ key. key.now) found.items ≡ fresh_keys (keys_of entries.now) keys.now) }
 {
-    let mut found = new_keys(alloc, entries, keys)?;
-    found.sort_unstable();
-    found.dedup();
-    Ok(found)
+    let mut distinct = listed_keys(alloc, keys)?;
+    distinct.sort_unstable();
+    distinct.dedup();
+    unknown_keys(alloc, entries, distinct.as_slice())
 }
 
-/// The keys of the lists that are not among the entries, as they come.
-fn new_keys<'a, V>(
-    alloc: Global,
-    entries: &[Entry<V>],
-    keys: &'a [KeyList],
-) -> Result<Vec<&'a Key>, OutOfMemory>
-    requires { IsStrictlySortedBy key_cmp (keys_of entries.now) }
-    ensures { IfOk result (λ found. map (λ key. key.now) found.items ≡ new_keys (keys_of entries.now) keys.now) }
+/// The keys of the lists, as they come.
+fn listed_keys<'a>(alloc: Global, keys: &'a [KeyList]) -> Result<Vec<&'a Key>, OutOfMemory>
+    ensures { IfOk result (λ found. map (λ key. key.now) found.items ≡ flat_map (λ own. own) keys.now) }
 {
     let mut found = Vec::new(alloc);
     for list in keys {
         for key in list.as_slice() {
-            if !is_known(entries, key) {
-                found.push(key)?;
-            }
+            found.push(key)?;
         }
     }
     Ok(found)
 }
 
-/// Whether a key is among the entries, by halves.
-fn is_known<V>(entries: &[Entry<V>], key: &Key) -> bool
-    requires { IsStrictlySortedBy key_cmp (keys_of entries.now) }
-    ensures { result ≡ is_among key_cmp (keys_of entries.now) key.now }
+/// Those of ascending keys that are not among the entries, by one walk beside these.
+fn unknown_keys<'a, V>(
+    alloc: Global,
+    entries: &[Entry<V>],
+    keys: &[&'a Key],
+) -> Result<Vec<&'a Key>, OutOfMemory>
+    requires sorted { IsStrictlySortedBy key_cmp (keys_of entries.now) }
+    requires ascend { IsStrictlySortedBy key_cmp (map (λ key. key.now) keys.now) }
+    ensures { IfOk result (λ found. map (λ key. key.now) found.items ≡ filter (λ key. not (is_among key_cmp (keys_of entries.now) key)) (map (λ key. key.now) keys.now)) }
 {
-    entries.binary_search_by(|entry| entry.key.cmp(key)).is_ok()
+    let mut found = Vec::new(alloc);
+    let mut before = 0;
+    for key in keys {
+        before += entries_below(&entries[before..], key);
+        if !begins_with(&entries[before..], key) {
+            found.push(*key)?;
+        }
+    }
+    Ok(found)
+}
+
+/// How many entries at the front are below a key.
+fn entries_below<V>(entries: &[Entry<V>], key: &Key) -> usize
+    ensures within { result ≤ length entries.now }
+    ensures below { result ≡ prefix_len (λ entry. is_lt (key_cmp entry.key key.now)) entries.now }
+{
+    for (place, entry) in entries.iter().enumerate() {
+        if entry.key >= *key {
+            return place;
+        }
+    }
+    entries.len()
+}
+
+/// Whether the first entry is that of a key.
+fn begins_with<V>(entries: &[Entry<V>], key: &Key) -> bool
+    ensures { result ≡ is_among key_cmp (take 1 (keys_of entries.now)) key.now }
+{
+    match entries.first() {
+        Some(entry) => *key == entry.key,
+        None => false,
+    }
 }
 
 /// An entry for each key, with the value of no rows.
