@@ -192,8 +192,8 @@ fn new_positions<V>(
 {
     let mut order = Vec::with_capacity(alloc, entries.len())?;
     let mut before = 0;
-    for position in 0..entries.len() {
-        before += count_below(&fresh[before..], &entries[position].key);
+    for (position, entry) in entries.iter().enumerate() {
+        before += count_below(&fresh[before..], &entry.key);
         order.push(position + before)?;
     }
     Ok(order)
