@@ -19,3 +19,4 @@ pub mod AdmitKeys
 pub mod Meanings
 pub mod JoinedGroup
 pub mod AdmitUnknown
+pub mod KeptCalls

@@ -5,7 +5,7 @@ ghost use Rattle.std.specs.List.Sorted.{IsPermutation, IsSortedByKey, IsStrictly
 ghost use Rattle.std.specs.Ordering.{is_lt};
 ghost use Rattle.xf_base.specs.Key.{key_cmp};
 ghost use Rattle.xf_group.specs.Admitted.{AreReady, IsReadyAt, SameMeanings, StayReady, SuitAll};
-ghost use Rattle.xf_group.specs.Fresh.{AreKept, fresh_keys, new_positions};
+ghost use Rattle.xf_group.specs.Fresh.{AreKept, KeepCalls, fresh_keys, new_positions};
 ghost use Rattle.xf_group.specs.Group.{meanings};
 ghost use Rattle.xf_group.specs.Held.{AreWithin, key_lists, keys_at_positions, keys_of};
 ghost use Rattle.xf_model.specs.Digits.{digits};
@@ -46,6 +46,7 @@ pub fn enter<R: Reducer, L: Ledger>(
     ensures begun { key_lists (keys_of entries.new.items) (take (length places.old) places.new) ≡ key_lists (keys_of entries.old.items) places.old }
     ensures meanings { SameMeanings R.meaning_of (R.folding reducer.now).initial entries.old.items entries.new.items }
     ensures kept { StayReady (R.IsReady reducer.now) entries.old.items entries.new.items }
+    ensures calls { KeepCalls R.calls entries.old.items entries.new.items }
     ensures sorted { IsStrictlySortedBy key_cmp (keys_of entries.new.items) }
     ensures within { AreWithin (length entries.new.items) places.new }
     ensures room { length entries.new.items ≤ length numbers.new.items }
@@ -72,6 +73,7 @@ fn enter_keys<R: Reducer>(
     ensures each { length places.new ≡ length places.old }
     ensures meanings { SameMeanings R.meaning_of (R.folding reducer.now).initial entries.old.items entries.new.items }
     ensures kept { StayReady (R.IsReady reducer.now) entries.old.items entries.new.items }
+    ensures calls { KeepCalls R.calls entries.old.items entries.new.items }
     ensures sorted { IsStrictlySortedBy key_cmp (keys_of entries.new.items) }
     ensures within { AreWithin (length entries.new.items) places.new }
     ensures room { length entries.new.items ≤ length numbers.new.items }
@@ -253,6 +255,7 @@ fn enter_places<R: Reducer, L: Ledger>(
     ensures keys { keys_of entries.new.items ≡ keys_of entries.old.items }
     ensures meanings { meanings R.meaning_of entries.new.items ≡ meanings R.meaning_of entries.old.items }
     ensures kept { StayReady (R.IsReady reducer.now) entries.old.items entries.new.items }
+    ensures calls { KeepCalls R.calls entries.old.items entries.new.items }
     ensures within { AreWithin (length entries.new.items) places.new }
 {
     let mut own = Vec::new(alloc);
@@ -286,7 +289,7 @@ fn enter_place<R: Reducer, L: Ledger>(
     ensures positions { OnOk result (keys_at_positions (keys_of entries.new) own.new.items ≡ keys.now) }
     ensures within { OnOk result (AllByRecursion (λ position. position < length entries.new) own.new.items) }
     ensures ready { OnOk result (AllByRecursion (λ key. IsReadyAt (R.IsReady reducer.now) entries.new key row.now) keys.now) }
-    ensures kept { AreKept R.meaning_of (R.IsReady reducer.now) entries.old entries.new }
+    ensures kept { AreKept R.meaning_of (R.IsReady reducer.now) R.calls entries.old entries.new }
     ensures cost { OnOk result (steps.new ≤ steps.old + digits (length entries.new) * length keys.now) }
 {
     for key in keys {
@@ -309,7 +312,7 @@ fn enter_key<R: Reducer, L: Ledger>(
     requires there { is_among key_cmp (keys_of entries.old) key.now ≡ true }
     ensures position { IfOk result (λ position. slice_get (keys_of entries.new) position ≡ Some key.now) }
     ensures ready { OnOk result (IsReadyAt (R.IsReady reducer.now) entries.new key.now row.now) }
-    ensures kept { AreKept R.meaning_of (R.IsReady reducer.now) entries.old entries.new }
+    ensures kept { AreKept R.meaning_of (R.IsReady reducer.now) R.calls entries.old entries.new }
     ensures cost { steps.new ≤ steps.old + digits (length entries.old) }
 {
     let Some(position) = find(entries, key, steps) else {

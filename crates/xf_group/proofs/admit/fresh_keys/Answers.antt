@@ -1,5 +1,5 @@
 -- The keys of the lists that are sorted and each kept once are their distinct keys, and those of them that are not among the entries the fresh keys.
-use Rattle.std.proofs.Common.{◌≡◌, List, flat_map, filter, map, not, Bor, ap, subst, sym, ◌∙◌, refl}
+use Rattle.std.proofs.Common.{◌≡◌, List, filter, map, not, Bor, ap, subst, sym, ◌∙◌, refl}
 use Rattle.std.proofs.lemmas.Result.{IfOk-weaker}
 use Rattle.std.specs.List.Sorted.{IsStrictlySortedBy}
 use Rattle.xf_base.specs.Key.{key_cmp}

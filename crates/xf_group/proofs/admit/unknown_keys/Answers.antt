@@ -1,5 +1,5 @@
 -- One key more: it is found where the next entry is not its own.
-use Rattle.std.proofs.Common.{◌≡◌, Bool, not, List, map, Bor, Global, Vec, arith, ap, sym, ◌∙◌}
+use Rattle.std.proofs.Common.{Bool, not, List, map, Bor, Global, Vec, arith, ap, sym, ◌∙◌}
 use Rattle.std.proofs.lemmas.List.{length-map, take_rest}
 use Rattle.xf_base.specs.Key.{key_cmp}
 use Rattle.xf_base.specs.declared.key.Key.{Key}
@@ -23,13 +23,13 @@ loop-key-preserved g c =
     c.loop-key.invariant.passed c.entries_below-before.ensures.within c.entries_below-before.ensures.below c.begins_with.ensures in
     record {
       found = elim c.if-not-begins_with.branch [
-            then-not-begins_with+in_ok-push w ↦
-                found_more unknown now_of keys c.loop-key.found.items c.if-not-begins_with.found.items index key c.loop-key-test.true c.key-item.is c.loop-key.invariant.found (ap not (sym step.known ∙ w.if-not-begins_with.true))
-                (ap (λ (v : Vec (Bor Key) Global). v.items) w.found-is ∙ w.in_ok-push.ensures.items)
-          | else-not-begins_with w ↦
-                ap (λ (v : Vec (Bor Key) Global). now_of_all v.items) w.found-is
-                ∙ found_kept unknown now_of keys c.loop-key.found.items index key c.loop-key-test.true c.key-item.is c.loop-key.invariant.found (ap not (sym step.known ∙ w.if-not-begins_with.false))
-          ];
+        | then-not-begins_with+in_ok-push w ↦
+            found_more unknown now_of keys c.loop-key.found.items c.if-not-begins_with.found.items index key c.loop-key-test.true c.key-item.is c.loop-key.invariant.found (ap not (sym step.known ∙ w.if-not-begins_with.true))
+            (ap (λ (v : Vec (Bor Key) Global). v.items) w.found-is ∙ w.in_ok-push.ensures.items)
+        | else-not-begins_with w ↦
+            ap (λ (v : Vec (Bor Key) Global). now_of_all v.items) w.found-is
+            ∙ found_kept unknown now_of keys c.loop-key.found.items index key c.loop-key-test.true c.key-item.is c.loop-key.invariant.found (ap not (sym step.known ∙ w.if-not-begins_with.false))
+      ];
       within = omega (arith, step.within, length-map entries (λ entry. entry.key));
       passed = step.passed;
     }
