@@ -19,6 +19,8 @@ use Rattle.xf_group.specs.Fresh.{AreKept}
 use Rattle.xf_group.specs.Group.{is_entry_of, meaning_at, meanings}
 use Rattle.xf_group.specs.Held.{keys_of}
 use Rattle.xf_group.specs.declared.entry.Entry.{Entry}
+use Rattle.xf_group.proofs.KeptCalls.{calls_from_stay, keep_calls_on, same_calls_on}
+use Rattle.xf_reduce.specs.Laws.{SameCalls}
 use Rattle.xf_group.proofs.AdmitFresh.{equal_from_test, list_any-map}
 use Rattle.xf_group.proofs.AdmitOrder.{AtMostOnce, by_test, ties_with}
 use Rattle.xf_base.proofs.EqualKeys.{key_cmp-equal}
@@ -188,14 +190,17 @@ abbrev pub with_value : {Value : Type 0} → List (Entry Value) → ℕ → Entr
 with_value entries place d value = record { key = (get_or entries place d).key; value = value }
 
 -- a value of the same meaning, ready for as many rows, keeps what entries are kept for
-pub prepared_kept : {Value Meaning : Type 0} (meaning_of : Value → Meaning) (IsReady : Value → List Cell → Type 0) (entries : List (Entry Value)) (place : ℕ) (d : Entry Value) (value : Value) → place < length entries → meaning_of value ≡ meaning_of (get_or entries place d).value → ((row : List Cell) → IsReady (get_or entries place d).value row → IsReady value row) → AreKept meaning_of IsReady entries (set entries place (with_value entries place d value))
-prepared_kept {Value} {Meaning} meaning_of IsReady entries place d value within means stays =
+pub prepared_kept : {Value Meaning : Type 0} (meaning_of : Value → Meaning) (IsReady : Value → List Cell → Type 0) (calls : Option (Value → ℕ)) (entries : List (Entry Value)) (place : ℕ) (d : Entry Value) (value : Value) → place < length entries → meaning_of value ≡ meaning_of (get_or entries place d).value → ((row : List Cell) → IsReady (get_or entries place d).value row → IsReady value row) → SameCalls calls (get_or entries place d).value value → AreKept meaning_of IsReady calls entries (set entries place (with_value entries place d value))
+prepared_kept {Value} {Meaning} meaning_of IsReady calls entries place d value within means stays told =
     let entry = with_value entries place d value in
     let same : get_or entries place d ≡ get_or entries place entry = get_or_default entries place d entry within in
     record {
       same_keys = map-set_same (λ (one : Entry Value). one.key) entries place entry within (ap (λ one. one.key) same);
       same_meanings = map-set_same (λ (one : Entry Value). (one.key, meaning_of one.value)) entries place entry within (ap (λ meaning. ((get_or entries place d).key, meaning)) means ∙ ap (λ one. (one.key, meaning_of one.value)) same);
       stay_ready = stay_ready_set IsReady entries place entry within (ap (λ one. one.key) same) (λ row ready. stays row (rw same ready));
+      keep_calls = calls_from_stay calls entries (set entries place entry) (λ one.
+          stay_ready_set (λ own row. SameCalls calls one own) entries place entry within (ap (λ other. other.key) same) (λ row so_far.
+          same_calls_on calls one (get_or entries place d).value value (rw same so_far) told));
     }
 
 -- and the value at a key's position that is ready for a row is the key's
@@ -206,12 +211,10 @@ prepared_ready {Value} IsReady entries key place d value row found ready =
     (value, ap (option_map (λ (one : Entry Value). one.value)) (find-set (is_entry_of key) entries place (with_value entries place d value) (sym first.1) at.0 at.1), ready)
 
 -- what is kept twice is kept
-pub kept_on : {Value Meaning : Type 0} (meaning_of : Value → Meaning) (IsReady : Value → List Cell → Type 0) (old new later : List (Entry Value)) → AreKept meaning_of IsReady old new → AreKept meaning_of IsReady new later → AreKept meaning_of IsReady old later
-kept_on meaning_of IsReady old new later first next = record {
+pub kept_on : {Value Meaning : Type 0} {calls : Option (Value → ℕ)} (meaning_of : Value → Meaning) (IsReady : Value → List Cell → Type 0) (old new later : List (Entry Value)) → AreKept meaning_of IsReady calls old new → AreKept meaning_of IsReady calls new later → AreKept meaning_of IsReady calls old later
+kept_on {calls = calls} meaning_of IsReady old new later first next = record {
   same_keys = next.same_keys ∙ first.same_keys;
   same_meanings = next.same_meanings ∙ first.same_meanings;
   stay_ready = λ key row ready. next.stay_ready key row (first.stay_ready key row ready);
+  keep_calls = keep_calls_on calls old new later first.keep_calls next.keep_calls;
 }
-
-pub kept_itself : {Value Meaning : Type 0} (meaning_of : Value → Meaning) (IsReady : Value → List Cell → Type 0) (entries : List (Entry Value)) → AreKept meaning_of IsReady entries entries
-kept_itself meaning_of IsReady entries = record { same_keys = refl; same_meanings = refl; stay_ready = λ key row ready. ready }

@@ -1,18 +1,17 @@
--- Fresh keys: found by halves, sorted, each once, and where the old keys stand between them.
-use Rattle.std.proofs.Common.{◌≡◌, ℕ, zero, suc, ◌+◌, ◌<◌, ◌≤◌, Bool, true, false, ◌||◌, cond, List, [], ◌∷◌, ◌++◌, map, length, get_or, take, drop, Result, Ok, Err, is_ok, refl, sym, ap, ◌∙◌, arith, ⊎_elim}
-use Rattle.std.proofs.lemmas.Bool.{cases_lt, true≢false}
+-- Fresh keys: sorted, each once, and where the old keys stand between them.
+use Rattle.std.proofs.Common.{◌≡◌, ℕ, zero, suc, ◌+◌, ◌<◌, ◌≤◌, Bool, true, false, ◌||◌, cond, List, [], ◌∷◌, ◌++◌, map, length, get_or, take, drop, refl, sym, ap, ◌∙◌, arith}
+use Rattle.std.proofs.lemmas.Bool.{true≢false}
 use Rattle.std.proofs.lemmas.Cmp.{on_total}
 use Rattle.std.proofs.Common.{take-add}
 use Rattle.std.proofs.lemmas.List.{drop-map, drop_more, length-drop, length-map, length-take, map_push, take_more}
 use Rattle.std.proofs.lemmas.List.Filters.{dedup_is}
-use Rattle.std.proofs.lemmas.List.Folds.{list_any_at, list_any_none}
 use Rattle.std.proofs.lemmas.List.Kept.{IsStrictlySortedBy-dedup}
-use Rattle.std.proofs.lemmas.List.Sorted.{list_any-IsPermutation, searchable_from_sorted}
+use Rattle.std.proofs.lemmas.List.Sorted.{list_any-IsPermutation}
 use Rattle.std.specs.Cmp.{IsTotalOrder}
 use Rattle.std.specs.FinMap.{IsAntisymmetric}
 use Rattle.std.specs.List.{AllByRecursion, dedup, dedup_from, enumerate_from, list_any, prefix_len}
 use Rattle.std.specs.List.Retain.{DiffersFromLast, IsFiltered}
-use Rattle.std.specs.List.Sorted.{IsBinarySearchResult, IsPermutation, IsSearchInRange, IsSorted, IsStrictlySortedBy}
+use Rattle.std.specs.List.Sorted.{IsPermutation, IsSorted, IsStrictlySortedBy}
 use Rattle.std.specs.Ordering.{is_eq, is_lt, on, ordering_reverse}
 use Rattle.std.specs.declared.cmp.Ordering.{Ordering}
 use Rattle.std.specs.declared.cmp.Ordering.TheVariants.{Less, Equal, Greater}
@@ -21,49 +20,14 @@ use Rattle.xf_base.specs.KeyOrder.{key_cmp_total}
 use Rattle.xf_base.specs.declared.key.Key.{Key}
 use Rattle.xf_group.specs.Fresh.{count_below, new_position, new_positions}
 use Rattle.xf_model.specs.Group.{distinct_keys}
-use Rattle.xf_model.specs.Laws.{is_among}
 use Rattle.xf_model.proofs.AscendingKeys.{all_implies, by_order, same_from_ties, sorted-distinct_keys, ties-distinct_keys}
 use Rattle.xf_group.proofs.AdmitOrder.{below-cons, by_test, none_below}
 
--- ---- a search by halves
+-- ---- sorted keys, each once
 
 pub list_any-map : {X Y : Type 0} (p : Y → Bool) (f : X → Y) (xs : List X) → list_any p (map f xs) ≡ list_any (λ x. p (f x)) xs
 list_any-map p f [] = refl
 list_any-map p f (x ∷ xs) = ap (λ b. p (f x) || b) (list_any-map p f xs)
-
--- what holds of each of a list holds at each place
-mapped_at : {X Y : Type 0} (P : Y → Type 0) (f : X → Y) (xs : List X) → AllByRecursion P (map f xs) → (place : ℕ) (d : X) → place < length xs → P (f (get_or xs place d))
-mapped_at P f [] all place d within = absurd (omega (arith, within))
-mapped_at P f (x ∷ xs) all zero d within = all.0
-mapped_at P f (x ∷ xs) all (suc place) d within = mapped_at P f xs all.1 place d (omega (arith, within))
-
--- strictly ascending keys are sorted
-sorted_from_strict : {X Key : Type 0} {cmp : Key → Key → Ordering} → IsTotalOrder cmp → (key_of : X → Key) (xs : List X) → IsStrictlySortedBy cmp (map key_of xs) → (place : ℕ) (d : X) → place + 1 < length xs → is_lt (cmp (key_of (get_or xs (place + 1) d)) (key_of (get_or xs place d))) ≡ false
-unfolding IsStrictlySortedBy
-sorted_from_strict order key_of [] sorted place d within = absurd (omega (arith, within))
-sorted_from_strict {X} {Key} {cmp} order key_of (x ∷ xs) sorted zero d within =
-    let less : cmp (key_of x) (key_of (get_or xs 0 d)) ≡ Less = mapped_at (λ y. cmp (key_of x) y ≡ Less) key_of xs sorted.0 0 d (omega (arith, within)) in
-    ap is_lt (order.antisymm (key_of (get_or xs 0 d)) (key_of x) ∙ ap ordering_reverse less)
-sorted_from_strict {X} {Key} {cmp} order key_of (x ∷ xs) sorted (suc place) d within =
-    let next : suc place + 1 ≡ suc (place + 1) = omega arith in
-    ap (λ n. is_lt (cmp (key_of (get_or (x ∷ xs) n d)) (key_of (get_or xs place d)))) next
-    ∙ sorted_from_strict order key_of xs sorted.1 place d (omega (arith, within))
-
--- a search by halves among strictly ascending keys finds those that are among them
-pub known_from_search : {X Key : Type 0} {cmp : Key → Key → Ordering} → IsTotalOrder cmp → (key_of : X → Key) (xs : List X) (key : Key) (result : Result ℕ ℕ) → IsStrictlySortedBy cmp (map key_of xs) → IsBinarySearchResult (λ x. cmp (key_of x) key) xs result → IsSearchInRange result (length xs) → is_ok result ≡ is_among cmp (map key_of xs) key
-known_from_search order key_of [] key (Ok place) sorted found within = absurd (omega (arith, within))
-known_from_search {X} {Key} {cmp} order key_of (x ∷ xs) key (Ok place) sorted found within =
-    let own = order.antisymm key (key_of (get_or (x ∷ xs) place x)) ∙ ap ordering_reverse (found x) in
-    sym (list_any-map (λ k. is_eq (cmp key k)) key_of (x ∷ xs) ∙ list_any_at (λ y. is_eq (cmp key (key_of y))) (x ∷ xs) place x within (ap is_eq own))
-known_from_search {X} {Key} {cmp} order key_of xs key (Err place) sorted found within =
-    let parted = found (searchable_from_sorted order key_of xs key (λ k d low high. sorted_from_strict order key_of xs sorted k d high)) in
-    sym (list_any-map (λ k. is_eq (cmp key k)) key_of xs ∙ list_any_none (λ y. is_eq (cmp key (key_of y))) xs (λ k d inside.
-    ⊎_elim
-    (λ (early : k < place). ap is_eq (order.antisymm key (key_of (get_or xs k d)) ∙ ap ordering_reverse (parted.0 k d (omega arith) early)))
-    (λ (late : place ≤ k). ap is_eq (order.antisymm key (key_of (get_or xs k d)) ∙ ap ordering_reverse (parted.1 k d late inside)))
-    (cases_lt k place)))
-
--- ---- sorted keys, each once
 
 or_twice : (a b : Bool) → (a || b) ≡ (a || (a || b))
 or_twice true b = refl
@@ -129,7 +93,7 @@ take_on : {X : Type 0} (m n : ℕ) (xs : List X) → take (m + n) xs ≡ take m 
 take_on m n xs = take-add m n xs
 
 -- as many of strictly ascending keys are below one as stand at the front and are below it
-below_at_front : {Key : Type 0} {cmp : Key → Key → Ordering} → IsTotalOrder cmp → (key : Key) (keys : List Key) → IsStrictlySortedBy cmp keys → count_below cmp key keys ≡ prefix_len (λ other. is_lt (cmp other key)) keys
+pub below_at_front : {Key : Type 0} {cmp : Key → Key → Ordering} → IsTotalOrder cmp → (key : Key) (keys : List Key) → IsStrictlySortedBy cmp keys → count_below cmp key keys ≡ prefix_len (λ other. is_lt (cmp other key)) keys
 unfolding IsStrictlySortedBy
 below_at_front order key [] sorted = refl
 below_at_front {Key} {cmp} order key (first ∷ keys) sorted =
@@ -202,7 +166,7 @@ position_more keys fresh key =
     let same : 0 + length keys ≡ length keys = omega arith in
     ap (map (new_position fresh)) (enumerate_push 0 keys key) ∙ map_push (new_position fresh) (enumerate_from 0 keys) (0 + length keys, key) ∙ ap (λ n. new_positions keys fresh ++ (n + count_below key_cmp key fresh) ∷ []) same
 
-prefix_len-map : {X Y : Type 0} (p : Y → Bool) (f : X → Y) (xs : List X) → prefix_len p (map f xs) ≡ prefix_len (λ x. p (f x)) xs
+pub prefix_len-map : {X Y : Type 0} (p : Y → Bool) (f : X → Y) (xs : List X) → prefix_len p (map f xs) ≡ prefix_len (λ x. p (f x)) xs
 prefix_len-map p f [] = refl
 prefix_len-map p f (x ∷ xs) = ap (λ n. cond (p (f x)) (1 + n) 0) (prefix_len-map p f xs)
 

@@ -28,7 +28,7 @@ abbrev all_keys : List (List Key) → List Key
 all_keys lists = flat_map (λ own. own) lists
 
 -- a key is fresh where it is in the lists and not among the old
-fresh-among : (old : List Key) (lists : List (List Key)) (q : Key) → is_among key_cmp (fresh_keys old lists) q ≡ (not (is_among key_cmp old q) && is_among key_cmp (all_keys lists) q)
+pub fresh-among : (old : List Key) (lists : List (List Key)) (q : Key) → is_among key_cmp (fresh_keys old lists) q ≡ (not (is_among key_cmp old q) && is_among key_cmp (all_keys lists) q)
 fresh-among old lists q =
     ties-distinct_keys key_cmp_total q (new_keys old lists)
     ∙ any-filter_same (λ own. is_eq (key_cmp q own)) (λ key. not (is_among key_cmp old key)) (not (is_among key_cmp old q))

@@ -1,5 +1,5 @@
 -- Steps of the loops that enter places: one key more, and one place more.
-use Rattle.std.proofs.Common.{◌≡◌, ℕ, ◌+◌, ◌*◌, ◌<◌, ◌≤◌, true, List, [], ◌∷◌, ◌++◌, length, get_or, take, Some, slice_get, append_assoc, add-mul, mul-add, sym, ap, subst, ◌∙◌, arith}
+use Rattle.std.proofs.Common.{◌≡◌, ℕ, ◌+◌, ◌*◌, ◌<◌, ◌≤◌, true, List, [], ◌∷◌, ◌++◌, Option, length, get_or, take, Some, slice_get, append_assoc, add-mul, mul-add, sym, ap, subst, ◌∙◌, arith}
 use Rattle.std.proofs.lemmas.List.{length-map, length-take, take-append-le, take_all, take_more}
 use Rattle.std.proofs.lemmas.List.Elements.{All-from_recursion}
 use Rattle.std.proofs.lemmas.List.Sums.{sum_by_more}
@@ -18,7 +18,7 @@ use Rattle.xf_model.specs.Digits.{digits}
 use Rattle.xf_model.specs.Laws.{is_among}
 
 -- kept entries are as many
-pub kept_length : {Value Meaning : Type 0} (meaning_of : Value → Meaning) (IsReady : Value → List Cell → Type 0) (old new : List (Entry Value)) → AreKept meaning_of IsReady old new → length new ≡ length old
+pub kept_length : {Value Meaning : Type 0} {calls : Option (Value → ℕ)} (meaning_of : Value → Meaning) (IsReady : Value → List Cell → Type 0) (old new : List (Entry Value)) → AreKept meaning_of IsReady calls old new → length new ≡ length old
 kept_length meaning_of IsReady old new kept = sym (length-map new (λ entry. entry.key)) ∙ ap length kept.same_keys ∙ length-map old (λ entry. entry.key)
 
 -- what holds of each of a list holds of the one that was read at a place

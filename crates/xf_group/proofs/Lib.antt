@@ -18,3 +18,5 @@ pub mod AdmitSteps
 pub mod AdmitKeys
 pub mod Meanings
 pub mod JoinedGroup
+pub mod AdmitUnknown
+pub mod KeptCalls

@@ -14,7 +14,10 @@ use Rattle.xf_base.specs.declared.key.Key.{Key}
 use Rattle.xf_group.specs.Admitted.{SameMeanings, StayReady}
 use Rattle.xf_group.specs.Group.{is_entry_of, keys_in, meaning_at, meanings, meanings_for, value_at}
 use Rattle.xf_group.specs.Held.{key_lists, keys_of}
+use Rattle.xf_group.specs.Fresh.{KeepCalls}
 use Rattle.xf_group.specs.declared.entry.Entry.{Entry}
+use Rattle.xf_group.proofs.KeptCalls.{calls_from_stay, stay_from_calls}
+use Rattle.xf_reduce.specs.Laws.{SameCalls}
 use Rattle.xf_group.proofs.AscendingEntries.{less_back}
 use Rattle.xf_group.proofs.KeptEntries.{find-filter, map-filter, tied_equal}
 use Rattle.xf_group.proofs.PlacedKeys.{all_keys, or_left, or_right}
@@ -116,3 +119,8 @@ left_ready {V} IsReady old mid left places is keys stay key row ready =
     let among : is_among key_cmp all key ≡ true = sym (ties-distinct_keys key_cmp_total key all) ∙ sym (ap (λ ks. is_among key_cmp ks key) keys) ∙ value_among old key ready.0 ready.1 in
     let there = stay key row ready in
     (there.0, ap (λ es. value_at es key) is ∙ left_value mid (keys_of mid) places key among ∙ there.1, there.2)
+
+-- and tell as many calls
+pub left_calls : {V : Type 0} (calls : Option (V → ℕ)) (old mid left : List (Entry V)) (places : List (List ℕ)) → left ≡ filter (is_placed (keys_of mid) places) mid → keys_of old ≡ keys_in (key_lists (keys_of mid) places) → KeepCalls calls old mid → KeepCalls calls old left
+left_calls calls old mid left places is keys keep =
+    calls_from_stay calls old left (λ one. left_ready (λ value row. SameCalls calls one value) old mid left places is keys (stay_from_calls calls old mid keep one))

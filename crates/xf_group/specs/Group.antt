@@ -41,7 +41,7 @@ value_at entries key = option_map (λ entry. entry.value) (find (is_entry_of key
 abbrev pub meanings : {Value Meaning : Type 0} → (Value → Meaning) → List (Entry Value) → List (Key × Meaning)
 meanings meaning_of entries = map (λ entry. (entry.key, meaning_of entry.value)) entries
 
--- what the value of a key means; a key that is not there yet means nothing
+-- what the value of a key means; a key that is not there yet means what no rows mean
 abbrev pub meaning_at : {Value Meaning : Type 0} → (Value → Meaning) → Meaning → List (Entry Value) → Key → Meaning
 meaning_at meaning_of nothing entries key = unwrap_or (option_map meaning_of (value_at entries key)) nothing
 

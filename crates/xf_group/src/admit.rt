@@ -1,11 +1,11 @@
 //! New places: their keys among the group's own, and values that are ready for their rows.
-ghost use Rattle.std.specs.Prelude.{◌≡◌, ◌+◌, ◌*◌, ◌<◌, ◌≤◌, ◌^◌, [], ◌++◌, IfOk, OnOk, Some, true, flat_map, length, map, slice_get, sum_by, take};
+ghost use Rattle.std.specs.Prelude.{◌≡◌, ◌+◌, ◌*◌, ◌<◌, ◌≤◌, ◌^◌, [], ◌++◌, IfOk, OnOk, Some, true, filter, flat_map, length, map, not, slice_get, sum_by, take};
 ghost use Rattle.std.specs.List.{AllByRecursion, prefix_len};
 ghost use Rattle.std.specs.List.Sorted.{IsPermutation, IsSortedByKey, IsStrictlySortedBy};
 ghost use Rattle.std.specs.Ordering.{is_lt};
 ghost use Rattle.xf_base.specs.Key.{key_cmp};
 ghost use Rattle.xf_group.specs.Admitted.{AreReady, IsReadyAt, SameMeanings, StayReady, SuitAll};
-ghost use Rattle.xf_group.specs.Fresh.{AreKept, fresh_keys, new_keys, new_positions};
+ghost use Rattle.xf_group.specs.Fresh.{AreKept, KeepCalls, fresh_keys, new_positions};
 ghost use Rattle.xf_group.specs.Group.{meanings};
 ghost use Rattle.xf_group.specs.Held.{AreWithin, key_lists, keys_at_positions, keys_of};
 ghost use Rattle.xf_model.specs.Digits.{digits};
@@ -21,7 +21,8 @@ use xf_base::{Key, KeyList, OutOfMemory, Row, Steps};
 use xf_lists::Lists;
 use xf_reduce::Reducer;
 
-/// Enters new places after the old ones. Without memory some may stand there, and keys that no place has.
+/// Enters new places after the old ones. Without memory the first of the new places may stand, and keys that no place has;
+/// the caller takes both away.
 pub fn enter<R: Reducer, L: Ledger>(
     alloc: Global,
     reducer: &R,
@@ -45,6 +46,7 @@ pub fn enter<R: Reducer, L: Ledger>(
     ensures begun { key_lists (keys_of entries.new.items) (take (length places.old) places.new) ≡ key_lists (keys_of entries.old.items) places.old }
     ensures meanings { SameMeanings R.meaning_of (R.folding reducer.now).initial entries.old.items entries.new.items }
     ensures kept { StayReady (R.IsReady reducer.now) entries.old.items entries.new.items }
+    ensures calls { KeepCalls R.calls entries.old.items entries.new.items }
     ensures sorted { IsStrictlySortedBy key_cmp (keys_of entries.new.items) }
     ensures within { AreWithin (length entries.new.items) places.new }
     ensures room { length entries.new.items ≤ length numbers.new.items }
@@ -71,6 +73,7 @@ fn enter_keys<R: Reducer>(
     ensures each { length places.new ≡ length places.old }
     ensures meanings { SameMeanings R.meaning_of (R.folding reducer.now).initial entries.old.items entries.new.items }
     ensures kept { StayReady (R.IsReady reducer.now) entries.old.items entries.new.items }
+    ensures calls { KeepCalls R.calls entries.old.items entries.new.items }
     ensures sorted { IsStrictlySortedBy key_cmp (keys_of entries.new.items) }
     ensures within { AreWithin (length entries.new.items) places.new }
     ensures room { length entries.new.items ≤ length numbers.new.items }
@@ -97,38 +100,67 @@ fn fresh_keys<'a, V>(
     requires { IsStrictlySortedBy key_cmp (keys_of entries.now) }
     ensures { IfOk result (λ found. map (λ key. key.now) found.items ≡ fresh_keys (keys_of entries.now) keys.now) }
 {
-    let mut found = new_keys(alloc, entries, keys)?;
-    found.sort_unstable();
-    found.dedup();
-    Ok(found)
+    let mut distinct = listed_keys(alloc, keys)?;
+    distinct.sort_unstable();
+    distinct.dedup();
+    unknown_keys(alloc, entries, distinct.as_slice())
 }
 
-/// The keys of the lists that are not among the entries, as they come.
-fn new_keys<'a, V>(
-    alloc: Global,
-    entries: &[Entry<V>],
-    keys: &'a [KeyList],
-) -> Result<Vec<&'a Key>, OutOfMemory>
-    requires { IsStrictlySortedBy key_cmp (keys_of entries.now) }
-    ensures { IfOk result (λ found. map (λ key. key.now) found.items ≡ new_keys (keys_of entries.now) keys.now) }
+/// The keys of the lists, as they come.
+fn listed_keys<'a>(alloc: Global, keys: &'a [KeyList]) -> Result<Vec<&'a Key>, OutOfMemory>
+    ensures { IfOk result (λ found. map (λ key. key.now) found.items ≡ flat_map (λ own. own) keys.now) }
 {
     let mut found = Vec::new(alloc);
     for list in keys {
         for key in list.as_slice() {
-            if !is_known(entries, key) {
-                found.push(key)?;
-            }
+            found.push(key)?;
         }
     }
     Ok(found)
 }
 
-/// Whether a key is among the entries, by halves.
-fn is_known<V>(entries: &[Entry<V>], key: &Key) -> bool
-    requires { IsStrictlySortedBy key_cmp (keys_of entries.now) }
-    ensures { result ≡ is_among key_cmp (keys_of entries.now) key.now }
+/// Those of ascending keys that are not among the entries, by one walk beside these.
+fn unknown_keys<'a, V>(
+    alloc: Global,
+    entries: &[Entry<V>],
+    keys: &[&'a Key],
+) -> Result<Vec<&'a Key>, OutOfMemory>
+    requires sorted { IsStrictlySortedBy key_cmp (keys_of entries.now) }
+    requires ascend { IsStrictlySortedBy key_cmp (map (λ key. key.now) keys.now) }
+    ensures { IfOk result (λ found. map (λ key. key.now) found.items ≡ filter (λ key. not (is_among key_cmp (keys_of entries.now) key)) (map (λ key. key.now) keys.now)) }
 {
-    entries.binary_search_by(|entry| entry.key.cmp(key)).is_ok()
+    let mut found = Vec::new(alloc);
+    let mut before = 0;
+    for key in keys {
+        before += entries_below(&entries[before..], key);
+        if !begins_with(&entries[before..], key) {
+            found.push(*key)?;
+        }
+    }
+    Ok(found)
+}
+
+/// How many entries at the front are below a key.
+fn entries_below<V>(entries: &[Entry<V>], key: &Key) -> usize
+    ensures within { result ≤ length entries.now }
+    ensures below { result ≡ prefix_len (λ entry. is_lt (key_cmp entry.key key.now)) entries.now }
+{
+    for (place, entry) in entries.iter().enumerate() {
+        if entry.key >= *key {
+            return place;
+        }
+    }
+    entries.len()
+}
+
+/// Whether the first entry is that of a key.
+fn begins_with<V>(entries: &[Entry<V>], key: &Key) -> bool
+    ensures { result ≡ is_among key_cmp (take 1 (keys_of entries.now)) key.now }
+{
+    match entries.first() {
+        Some(entry) => *key == entry.key,
+        None => false,
+    }
 }
 
 /// An entry for each key, with the value of no rows.
@@ -162,8 +194,8 @@ fn new_positions<V>(
 {
     let mut order = Vec::with_capacity(alloc, entries.len())?;
     let mut before = 0;
-    for position in 0..entries.len() {
-        before += count_below(&fresh[before..], &entries[position].key);
+    for (position, entry) in entries.iter().enumerate() {
+        before += count_below(&fresh[before..], &entry.key);
         order.push(position + before)?;
     }
     Ok(order)
@@ -223,6 +255,7 @@ fn enter_places<R: Reducer, L: Ledger>(
     ensures keys { keys_of entries.new.items ≡ keys_of entries.old.items }
     ensures meanings { meanings R.meaning_of entries.new.items ≡ meanings R.meaning_of entries.old.items }
     ensures kept { StayReady (R.IsReady reducer.now) entries.old.items entries.new.items }
+    ensures calls { KeepCalls R.calls entries.old.items entries.new.items }
     ensures within { AreWithin (length entries.new.items) places.new }
 {
     let mut own = Vec::new(alloc);
@@ -256,7 +289,7 @@ fn enter_place<R: Reducer, L: Ledger>(
     ensures positions { OnOk result (keys_at_positions (keys_of entries.new) own.new.items ≡ keys.now) }
     ensures within { OnOk result (AllByRecursion (λ position. position < length entries.new) own.new.items) }
     ensures ready { OnOk result (AllByRecursion (λ key. IsReadyAt (R.IsReady reducer.now) entries.new key row.now) keys.now) }
-    ensures kept { AreKept R.meaning_of (R.IsReady reducer.now) entries.old entries.new }
+    ensures kept { AreKept R.meaning_of (R.IsReady reducer.now) R.calls entries.old entries.new }
     ensures cost { OnOk result (steps.new ≤ steps.old + digits (length entries.new) * length keys.now) }
 {
     for key in keys {
@@ -279,7 +312,7 @@ fn enter_key<R: Reducer, L: Ledger>(
     requires there { is_among key_cmp (keys_of entries.old) key.now ≡ true }
     ensures position { IfOk result (λ position. slice_get (keys_of entries.new) position ≡ Some key.now) }
     ensures ready { OnOk result (IsReadyAt (R.IsReady reducer.now) entries.new key.now row.now) }
-    ensures kept { AreKept R.meaning_of (R.IsReady reducer.now) entries.old entries.new }
+    ensures kept { AreKept R.meaning_of (R.IsReady reducer.now) R.calls entries.old entries.new }
     ensures cost { steps.new ≤ steps.old + digits (length entries.old) }
 {
     let Some(position) = find(entries, key, steps) else {

@@ -1,14 +1,14 @@
 //! A group: what is kept, and its calls.
-ghost use Rattle.std.specs.Prelude.{◌≡◌, ◌+◌, ◌*◌, ◌<◌, ◌≤◌, [], ◌++◌, IfOk, OnErr, OnOk, Some, filter, flat_map, length, map, option_copied, slice_get, sum_by, take};
+ghost use Rattle.std.specs.Prelude.{◌≡◌, ◌+◌, ◌*◌, ◌<◌, ◌≤◌, [], ◌++◌, IfOk, OnErr, OnOk, Some, true, filter, flat_map, length, map, option_copied, slice_get, sum_by, take};
 ghost use Rattle.std.specs.List.{AllByRecursion};
 ghost use Rattle.std.specs.List.Sorted.{IsStrictlySortedBy};
 ghost use Rattle.std.specs.Ordering.{nat_cmp};
 ghost use Rattle.xf_base.specs.Gone.{kept};
 ghost use Rattle.xf_base.specs.Key.{key_cmp};
-ghost use Rattle.xf_group.specs.Admitted.{AreReady, StayReady, SuitAll};
+ghost use Rattle.xf_group.specs.Admitted.{AreReady, StayReady, StayUncalled, SuitAll};
 ghost use Rattle.xf_group.specs.Changed.{AreChanged, IsChanged, MayChange, MayChangeAll, changed_meaning};
 ghost use Rattle.xf_group.specs.ChangedAt.{AreChangedAt, MayChangeAt};
-ghost use Rattle.xf_group.specs.Group.{keys_at, meanings, meanings_for, ranked_positions, value_at};
+ghost use Rattle.xf_group.specs.Group.{IsGroup, keys_at, meanings, meanings_for, ranked_positions, value_at};
 ghost use Rattle.xf_group.specs.Ranks.{ranks_at};
 ghost use Rattle.xf_model.specs.Digits.{digits};
 ghost use Rattle.xf_model.specs.Laws.{is_among};
@@ -63,6 +63,14 @@ impl<R: Reducer> Group<R> {
             places: Lists::new(alloc),
             numbers: Vec::new(alloc),
         }
+    }
+
+    /// True of every group: the clause tells a proof what each of them meets.
+    pub fn is_sound(&self) -> bool
+        ensures answer { result ≡ true }
+        ensures sound { IsGroup self.now }
+    {
+        self.entries.len() <= self.numbers.len()
     }
 
     /// The number of keys.
@@ -125,8 +133,10 @@ impl<R: Reducer> Group<R> {
     }
 
     /// Enters new places after the old ones, with the keys of each. Keys that are new get the value of no rows, and the
-    /// value of each key of a new place is made ready for its row; no row is added. Each comparison of a key costs a step.
-    /// Without memory the keys and places are as before; no value means anything else or is ready for fewer rows.
+    /// value of each key of a new place is made ready for its row; no row is added, and each key's value tells as many
+    /// calls as it did. Finding a key among the group's own costs a step for each comparison; sorting and merging the new
+    /// keys costs none. Only want of memory is an error. Without memory the keys and places are as before; no value means
+    /// anything else or is ready for fewer rows.
     pub fn admit<L: Ledger>(
         &mut self,
         rows: &RowList,
@@ -141,6 +151,7 @@ impl<R: Reducer> Group<R> {
         ensures meanings { OnOk result (meanings R.meaning_of self.new.entries ≡ meanings_for R.meaning_of (R.folding self.old.reducer).initial self.old.entries self.new.places) }
         ensures ready { OnOk result (AreReady (R.IsReady self.old.reducer) self.new.entries rows.now keys.now) }
         ensures kept { StayReady (R.IsReady self.old.reducer) self.old.entries self.new.entries }
+        ensures calls { StayUncalled R.calls self.old.entries self.new.entries }
         ensures same_places { OnErr result (self.new.places ≡ self.old.places) }
         ensures same_meanings { OnErr result (meanings R.meaning_of self.new.entries ≡ meanings R.meaning_of self.old.entries) }
         ensures cost { OnOk result (steps.new ≤ steps.old + (digits (length self.new.entries) + 1) * sum_by length keys.now) }

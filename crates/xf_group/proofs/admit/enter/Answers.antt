@@ -9,6 +9,7 @@ use Rattle.xf_group.specs.Held.{key_lists, keys_of}
 use Rattle.xf_group.proofs.AdmitEntries.{same_meanings_from_equal}
 use Rattle.xf_group.proofs.AdmitKeys.{each_entered}
 use Rattle.xf_group.proofs.AdmitSteps.{cost_slack}
+use Rattle.xf_group.proofs.KeptCalls.{keep_calls_on}
 use Rattle.xf_group.proofs.admit.enter.Goals as goal
 
 pub enter_places-requires-clause-there : goal.enter_places-requires-clause-there
@@ -33,6 +34,7 @@ returns g c =
           ∙ keyed.places;
       meanings = λ key. same_meanings_from_equal g.R.Reducer.meaning_of (g.R.Reducer.folding c.args.reducer.now).initial between new placed.meanings key ∙ keyed.meanings key;
       kept = λ key row ready. placed.kept key row (keyed.kept key row ready);
+      calls = keep_calls_on g.R.Reducer.calls c.args.entries.now.items between new keyed.calls placed.calls;
       sorted = subst (IsStrictlySortedBy key_cmp) (sym placed.keys) keyed.sorted;
       within = placed.within;
       room = omega (arith, ap length placed.keys, length-map new (λ entry. entry.key), length-map between (λ entry. entry.key), keyed.room);

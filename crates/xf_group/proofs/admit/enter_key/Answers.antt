@@ -16,12 +16,12 @@ offset_bounds-entries-position g c =
 pub returns-in_err-prepare-clause-kept : goal.returns-in_err-prepare-clause-kept
 returns-in_err-prepare-clause-kept g c =
     let at = key_at_position c.args.entries.now c.args.key.now c.in-Some.position (sym c.find.ensures.found ∙ c.in-Some.is) in
-    prepared_kept g.R.Reducer.meaning_of (g.R.Reducer.IsReady c.args.reducer.now) c.args.entries.now c.in-Some.position c.index-entries-position.result c.prepare.new.value at.0 c.prepare.ensures.meaning c.prepare.ensures.kept
+    prepared_kept g.R.Reducer.meaning_of (g.R.Reducer.IsReady c.args.reducer.now) g.R.Reducer.calls c.args.entries.now c.in-Some.position c.index-entries-position.result c.prepare.new.value at.0 c.prepare.ensures.meaning c.prepare.ensures.kept c.prepare.ensures.calls
 
 pub returns-clause-position : goal.returns-clause-position
 returns-clause-position g c =
     let at = key_at_position c.args.entries.now c.args.key.now c.in-Some.position (sym c.find.ensures.found ∙ c.in-Some.is) in
-    let kept = prepared_kept g.R.Reducer.meaning_of (g.R.Reducer.IsReady c.args.reducer.now) c.args.entries.now c.in-Some.position c.index-entries-position.result c.prepare.new.value at.0 c.prepare.ensures.meaning c.prepare.ensures.kept in
+    let kept = prepared_kept g.R.Reducer.meaning_of (g.R.Reducer.IsReady c.args.reducer.now) g.R.Reducer.calls c.args.entries.now c.in-Some.position c.index-entries-position.result c.prepare.new.value at.0 c.prepare.ensures.meaning c.prepare.ensures.kept c.prepare.ensures.calls in
     ap (λ keys. slice_get keys c.in-Some.position) kept.same_keys ∙ at.1
 
 pub returns-clause-ready : goal.returns-clause-ready
@@ -31,4 +31,4 @@ returns-clause-ready g c =
 pub returns-clause-kept : goal.returns-clause-kept
 returns-clause-kept g c =
     let at = key_at_position c.args.entries.now c.args.key.now c.in-Some.position (sym c.find.ensures.found ∙ c.in-Some.is) in
-    prepared_kept g.R.Reducer.meaning_of (g.R.Reducer.IsReady c.args.reducer.now) c.args.entries.now c.in-Some.position c.index-entries-position.result c.prepare.new.value at.0 c.prepare.ensures.meaning c.prepare.ensures.kept
+    prepared_kept g.R.Reducer.meaning_of (g.R.Reducer.IsReady c.args.reducer.now) g.R.Reducer.calls c.args.entries.now c.in-Some.position c.index-entries-position.result c.prepare.new.value at.0 c.prepare.ensures.meaning c.prepare.ensures.kept c.prepare.ensures.calls

@@ -8,6 +8,8 @@ use Rattle.xf_group.specs.Held.{keys_of}
 use Rattle.xf_group.proofs.AdmitEntries.{same_meanings, stay_ready_among_more}
 use Rattle.xf_group.proofs.AdmitKeys.{all_keys_entered, entered, fresh-sorted, length-new_positions, no_keys_entered, stand_entered, within_entries, within_keys}
 use Rattle.xf_group.proofs.AdmitPlaces.{places_stand}
+use Rattle.xf_group.proofs.KeptCalls.{calls_from_stay, keep_calls_itself}
+use Rattle.xf_reduce.specs.Laws.{SameCalls}
 use Rattle.xf_group.proofs.PlacedKeys.{renumbered_lists, renumbered_within}
 use Rattle.xf_group.proofs.admit.enter_keys.Goals as goal
 
@@ -24,6 +26,9 @@ returns-then-is_empty-clause-keys g c =
 
 pub new_positions-requires-clause-ascend : goal.new_positions-requires-clause-ascend
 new_positions-requires-clause-ascend g c = rw (c.as_slice-3.ensures.value, c.in_ok-fresh.ensures) (fresh-sorted (keys_of c.as_slice.result.now) c.args.keys.now)
+
+pub returns-in_err-append-clause-calls : goal.returns-in_err-append-clause-calls
+returns-in_err-append-clause-calls g c = rw c.in_err-append.ensures.items (keep_calls_itself g.R.Reducer.calls c.args.entries.now.items)
 
 pub returns-in_err-append-clause-within : goal.returns-in_err-append-clause-within
 returns-in_err-append-clause-within g c = rw c.in_err-append.ensures.items c.requires.within
@@ -66,6 +71,7 @@ returns g c =
       each = rw c.renumber.ensures (length-map places (map (slice_index order)));
       meanings = same_meanings g.R.Reducer.meaning_of (g.R.Reducer.folding c.args.reducer.now).initial old added new moved all.once c.in_ok-added.ensures.meanings;
       kept = stay_ready_among_more (g.R.Reducer.IsReady c.args.reducer.now) old added new moved all.once;
+      calls = calls_from_stay g.R.Reducer.calls old new (λ one. stay_ready_among_more (λ value row. SameCalls g.R.Reducer.calls one value) old added new moved all.once);
       sorted = all.ascend;
       within = rw c.renumber.ensures (within_entries new (map (map (slice_index order)) places) (renumbered_within (keys_of old) (keys_of new) (slice_index order) places within stand));
       room = omega (arith, all.many, c.in_ok-make_room.ensures.room, c.len.ensures, c.len-2.ensures);

@@ -12,6 +12,6 @@ invariant-loop-key g l = record {
   positions : keys_at_positions (keys_of l.entries) l.own.items ≡ take l.key-index l.keys;
   within : AllByRecursion (λ position. position < length l.entries) l.own.items;
   ready : AllByRecursion (λ key. IsReadyAt (g.R.Reducer.IsReady l.reducer) l.entries key l.row) (take l.key-index l.keys);
-  kept : AreKept g.R.Reducer.meaning_of (g.R.Reducer.IsReady l.reducer) l.fn.entries l.entries;
+  kept : AreKept g.R.Reducer.meaning_of (g.R.Reducer.IsReady l.reducer) g.R.Reducer.calls l.fn.entries l.entries;
   cost : l.steps ≤ l.fn.steps + digits (length l.fn.entries) * l.key-index;
 }

@@ -15,6 +15,15 @@ returns-in_err-enter_place-clause-kept g c =
     let kept = kept_on meaning_of IsReady c.args.entries.now.items c.loop-place.entries.items new c.loop-place.invariant.kept (rw c.as_mut_slice.ensures.value at c.enter_place.ensures.kept) in
     rw written kept.stay_ready
 
+pub returns-in_err-enter_place-clause-calls : goal.returns-in_err-enter_place-clause-calls
+returns-in_err-enter_place-clause-calls g c =
+    let meaning_of = g.R.Reducer.meaning_of in
+    let IsReady = g.R.Reducer.IsReady c.args.reducer.now in
+    let new = c.enter_place.new.entries in
+    let written : take c.loop-place.entries.len (new ++ drop (length new) c.loop-place.entries.items) ≡ new = take_at new (drop (length new) c.loop-place.entries.items) c.loop-place.entries.len (omega arith) in
+    let kept = kept_on meaning_of IsReady c.args.entries.now.items c.loop-place.entries.items new c.loop-place.invariant.kept (rw c.as_mut_slice.ensures.value at c.enter_place.ensures.kept) in
+    rw written kept.keep_calls
+
 pub returns-in_err-enter_place-clause-within : goal.returns-in_err-enter_place-clause-within
 returns-in_err-enter_place-clause-within g c =
     let new = c.enter_place.new.entries in
@@ -30,6 +39,15 @@ returns-in_err-push-clause-kept g c =
     let written : take c.loop-place.entries.len (new ++ drop (length new) c.loop-place.entries.items) ≡ new = take_at new (drop (length new) c.loop-place.entries.items) c.loop-place.entries.len (omega arith) in
     let kept = kept_on meaning_of IsReady c.args.entries.now.items c.loop-place.entries.items new c.loop-place.invariant.kept (rw c.as_mut_slice.ensures.value at c.enter_place.ensures.kept) in
     rw written kept.stay_ready
+
+pub returns-in_err-push-clause-calls : goal.returns-in_err-push-clause-calls
+returns-in_err-push-clause-calls g c =
+    let meaning_of = g.R.Reducer.meaning_of in
+    let IsReady = g.R.Reducer.IsReady c.args.reducer.now in
+    let new = c.enter_place.new.entries in
+    let written : take c.loop-place.entries.len (new ++ drop (length new) c.loop-place.entries.items) ≡ new = take_at new (drop (length new) c.loop-place.entries.items) c.loop-place.entries.len (omega arith) in
+    let kept = kept_on meaning_of IsReady c.args.entries.now.items c.loop-place.entries.items new c.loop-place.invariant.kept (rw c.as_mut_slice.ensures.value at c.enter_place.ensures.kept) in
+    rw written kept.keep_calls
 
 pub returns-in_err-push-clause-within : goal.returns-in_err-push-clause-within
 returns-in_err-push-clause-within g c =
@@ -52,7 +70,7 @@ loop-place-preserved g c =
     let place = c.loop-place.place in
     let own = c.index-keys-place.result in
     let written : take c.loop-place.entries.len (new ++ drop (length new) old) ≡ new = take_at new (drop (length new) old) c.loop-place.entries.len (omega arith) in
-    let now : AreKept meaning_of IsReady old new = rw c.as_mut_slice.ensures.value at c.enter_place.ensures.kept in
+    let now : AreKept meaning_of IsReady g.R.Reducer.calls old new = rw c.as_mut_slice.ensures.value at c.enter_place.ensures.kept in
     let same : length new ≡ length old = kept_length meaning_of IsReady old new now in
     let kept = kept_on meaning_of IsReady first old new c.loop-place.invariant.kept now in
     record {

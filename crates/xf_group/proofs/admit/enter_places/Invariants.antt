@@ -12,7 +12,7 @@ invariant-loop-place g l = record {
   begun : take (length l.fn.places) l.places ≡ l.fn.places;
   within : AreWithin (length l.entries.items) l.places;
   ready : AreReady (g.R.Reducer.IsReady l.reducer) l.entries.items (take l.place l.rows) (take l.place l.keys);
-  kept : AreKept g.R.Reducer.meaning_of (g.R.Reducer.IsReady l.reducer) l.fn.entries.items l.entries.items;
+  kept : AreKept g.R.Reducer.meaning_of (g.R.Reducer.IsReady l.reducer) g.R.Reducer.calls l.fn.entries.items l.entries.items;
   own : l.own.items ≡ [];
   cost : l.steps ≤ l.fn.steps + digits (length l.fn.entries.items) * sum_by length (take l.place l.keys);
 }

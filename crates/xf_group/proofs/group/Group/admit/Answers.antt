@@ -5,14 +5,15 @@ use Rattle.std.specs.List.{AllByRecursion}
 use Rattle.std.specs.List.Sorted.{IsStrictlySortedBy}
 use Rattle.std.specs.Result.{is_err}
 use Rattle.xf_base.specs.Key.{key_cmp}
-use Rattle.xf_group.specs.Admitted.{StayReady}
+use Rattle.xf_group.specs.Admitted.{StayReady, StayUncalled}
 use Rattle.xf_group.specs.Group.{Grouped, IsGroup, keys_in, meanings, meanings_for}
 use Rattle.xf_group.specs.Held.{AreWithin, grouped, key_lists, keys_of}
 use Rattle.xf_group.specs.declared.entry.Entry.{Entry}
 use Rattle.xf_group.proofs.DroppedGroup.{dropped_group, left_keys, length-filter-le}
 use Rattle.xf_group.proofs.GroupHeld.{keys_sorted}
+use Rattle.xf_group.proofs.KeptCalls.{uncalled_from_kept}
 use Rattle.xf_group.proofs.JoinedGroup.{all-take, joined_group}
-use Rattle.xf_group.proofs.Meanings.{entered_meanings, left_meanings, left_ready}
+use Rattle.xf_group.proofs.Meanings.{entered_meanings, left_calls, left_meanings, left_ready}
 use Rattle.xf_group.proofs.PlacedKeys.{all_keys}
 use Rattle.xf_group.proofs.UnusedDropped.{is_placed}
 use Rattle.xf_model.specs.Group.{distinct_keys}
@@ -63,6 +64,18 @@ returns-then-is_err-clause-kept g c =
     subst (λ (group : Grouped g.row.R.Denot g.row.R-Value.Denot). StayReady (g.R.Reducer.IsReady group.reducer) group.entries left) view
     (left_ready (g.R.Reducer.IsReady c.self.inside.reducer) old mid left cut c.drop_unused.ensures.entries (c.self.invariant.group.keys ∙ ap keys_in (sym lists)) c.enter-entered.ensures.kept)
 
+pub returns-then-is_err-clause-calls : goal.returns-then-is_err-clause-calls
+returns-then-is_err-clause-calls g c =
+    let view : grouped c.self.inside.reducer c.self.inside.entries.items c.self.inside.places ≡ c.args.self.now = c.self.view_is in
+    let old = c.self.inside.entries.items in
+    let places = c.self.inside.places in
+    let mid = c.enter-entered.new.entries.items in
+    let cut = c.truncate.new.self in
+    let left = c.drop_unused.new.entries.items in
+    let lists : key_lists (keys_of mid) cut ≡ key_lists (keys_of old) places = cut_lists old mid places c.enter-entered.new.places cut c.len-count.result c.len-count.ensures c.truncate.ensures c.enter-entered.ensures.begun in
+    subst (λ (group : Grouped g.row.R.Denot g.row.R-Value.Denot). StayUncalled g.R.Reducer.calls group.entries left) view
+    (uncalled_from_kept g.R.Reducer.calls old left (left_calls g.R.Reducer.calls old mid left cut c.drop_unused.ensures.entries (c.self.invariant.group.keys ∙ ap keys_in (sym lists)) c.enter-entered.ensures.calls))
+
 pub returns-then-is_err-clause-same_meanings : goal.returns-then-is_err-clause-same_meanings
 returns-then-is_err-clause-same_meanings g c =
     let view : grouped c.self.inside.reducer c.self.inside.entries.items c.self.inside.places ≡ c.args.self.now = c.self.view_is in
@@ -111,3 +124,9 @@ pub returns-clause-kept : goal.returns-clause-kept
 returns-clause-kept g c =
     let view : grouped c.self.inside.reducer c.self.inside.entries.items c.self.inside.places ≡ c.args.self.now = c.self.view_is in
     subst (λ (group : Grouped g.row.R.Denot g.row.R-Value.Denot). StayReady (g.R.Reducer.IsReady group.reducer) group.entries c.enter-entered.new.entries.items) view c.enter-entered.ensures.kept
+
+pub returns-clause-calls : goal.returns-clause-calls
+returns-clause-calls g c =
+    let view : grouped c.self.inside.reducer c.self.inside.entries.items c.self.inside.places ≡ c.args.self.now = c.self.view_is in
+    subst (λ (group : Grouped g.row.R.Denot g.row.R-Value.Denot). StayUncalled g.R.Reducer.calls group.entries c.enter-entered.new.entries.items) view
+    (uncalled_from_kept g.R.Reducer.calls c.self.inside.entries.items c.enter-entered.new.entries.items c.enter-entered.ensures.calls)
