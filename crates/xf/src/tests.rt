@@ -7,4 +7,5 @@ mod case;
 mod faults;
 mod filters;
 mod lines;
+mod reducers;
 mod words;

@@ -1,7 +1,6 @@
 -- The lines of a list, one item after the other.
-use Rattle.std.proofs.Common.{◌≡◌, ℕ, zero, suc, ◌+◌, ◌<◌, List, [], ◌∷◌, ◌++◌, length, take, get_or, Some, add-one, append_assoc, refl, sym, ap, ◌∙◌}
+use Rattle.std.proofs.Common.{◌≡◌, ℕ, zero, suc, ◌+◌, List, [], ◌∷◌, ◌++◌, take, add-one, append_assoc, refl, sym, ap, ◌∙◌}
 use Rattle.std.proofs.lemmas.List.{append-nil}
-use Rattle.std.proofs.lemmas.Option.{slice_get-get_or}
 use Rattle.std.specs.List.{flat_map, slice_get}
 use Rattle.xf_app.specs.Page.{lines_at}
 
@@ -18,10 +17,3 @@ pub lines-next : {X : Type 0} (lines_of : X → List ℕ) (xs : List X) (i : ℕ
 lines-next lines_of xs i first before after so_far more =
     more ∙ ap (λ text. text ++ lines_at lines_of (slice_get xs i)) so_far ∙ append_assoc first (flat_map lines_of (take i xs)) (lines_at lines_of (slice_get xs i))
     ∙ ap (λ text. first ++ text) (sym (lines-taken lines_of xs i)) ∙ rw add-one refl
-
--- of an item that is read at its place
-pub lines-read : {X : Type 0} (lines_of : X → List ℕ) (xs : List X) (i : ℕ) (x : X) (first before after : List ℕ) → i < length xs → x ≡ get_or xs i x
-    → before ≡ first ++ flat_map lines_of (take i xs) → after ≡ before ++ lines_of x → after ≡ first ++ flat_map lines_of (take (i + 1) xs)
-lines-read lines_of xs i x first before after within at so_far more =
-    let there : slice_get xs i ≡ Some x = slice_get-get_or xs i x within ∙ ap (λ y. Some y) (sym at) in
-    lines-next lines_of xs i first before after so_far (more ∙ ap (λ found. before ++ lines_at lines_of found) (sym there))

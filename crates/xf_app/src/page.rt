@@ -1,18 +1,15 @@
 //! The data view of a session: its counts, each whole, and each group.
 ghost use Rattle.std.specs.Prelude.{◌≡◌, ◌++◌, OnOk, flat_map, slice_get};
-ghost use Rattle.xf_app.specs.Page.{counts_line, data_view, group_lines, lines_at, lines_of_group, whole_line};
+ghost use Rattle.xf_app.specs.Page.{counts_line, data_view, lines_at, lines_of_group, whole_line};
 
-use std::alloc::Global;
 use std::sync::ledger::Ledger;
-use xf_base::{KeyForm, OutOfMemory, Steps, put_number, put_word};
-use xf_engine::KeyNumber;
-use xf_reply::put_entry;
+use xf_base::{OutOfMemory, Steps, put_number, put_word};
 use xf_session::Session;
 
-/// Appends the data view: `records SIZE passing COUNT`; `whole NAME VALUE` for each whole; and `group NAME KEYS` for each
-/// group, with a line `  KEY COUNT` for each of its keys. Where memory is refused a part of it may stand in `out`.
+/// Appends the data view: `records SIZE passing COUNT`; `whole NAME` and its fields for each whole; and `group NAME KEYS` for
+/// each group, with a line for each of its keys, which has the key and its fields. Where memory is refused a part of it may
+/// stand in `out`.
 pub fn put_data_view<L: Ledger>(
-    alloc: Global,
     out: &mut Vec<u8>,
     session: &Session,
     steps: &mut Steps<L>,
@@ -20,12 +17,9 @@ pub fn put_data_view<L: Ledger>(
     ensures ok { OnOk result (out.new.items ≡ out.old.items ++ data_view session.now) }
 {
     let cross = session.cross();
-    let passing = cross.passing_count(steps);
-    put_counts(out, cross.size(), passing)?;
-    for place in 0..session.whole_count() {
-        put_whole_at(out, session, place, passing)?;
-    }
-    put_groups(alloc, out, session, steps)
+    put_counts(out, cross.size(), cross.passing_count(steps))?;
+    put_wholes(out, session)?;
+    put_groups(out, session, steps)
 }
 
 /// Appends how many records there are, and how many pass.
@@ -40,36 +34,32 @@ fn put_counts(out: &mut Vec<u8>, size: u64, passing: u64) -> Result<(), OutOfMem
     Ok(())
 }
 
-/// Appends the whole at a place, if one stands there: its name and its value.
-fn put_whole_at(
-    out: &mut Vec<u8>,
-    session: &Session,
-    place: usize,
-    value: u64,
-) -> Result<(), OutOfMemory>
-    ensures ok { OnOk result (out.new.items ≡ out.old.items ++ lines_at (whole_line value) (slice_get session.now.wholes place)) }
+/// Appends each whole.
+fn put_wholes(out: &mut Vec<u8>, session: &Session) -> Result<(), OutOfMemory>
+    ensures ok { OnOk result (out.new.items ≡ out.old.items ++ flat_map (whole_line session.now) session.now.wholes) }
 {
-    match session.whole_at(place) {
-        Some(name) => put_whole(out, name, value),
-        None => Ok(()),
+    for place in 0..session.whole_count() {
+        put_whole_at(out, session, place)?;
     }
+    Ok(())
 }
 
-/// Appends a whole: its name and its value.
-fn put_whole(out: &mut Vec<u8>, name: &str, value: u64) -> Result<(), OutOfMemory>
-    ensures ok { OnOk result (out.new.items ≡ out.old.items ++ whole_line value name.now) }
+/// Appends the whole at a place, if one stands there: its name and its fields.
+fn put_whole_at(out: &mut Vec<u8>, session: &Session, place: usize) -> Result<(), OutOfMemory>
+    ensures ok { OnOk result (out.new.items ≡ out.old.items ++ lines_at (whole_line session.now) (slice_get session.now.wholes place)) }
 {
+    let Some((name, id)) = session.whole_at(place) else {
+        return Ok(());
+    };
     out.extend_from_slice(b"whole ")?;
     put_word(out, name.as_bytes())?;
-    out.push(b' ')?;
-    put_number(out, value)?;
+    session.put_whole(out, id)?;
     out.push(b'\n')?;
     Ok(())
 }
 
 /// Appends each group.
 fn put_groups<L: Ledger>(
-    alloc: Global,
     out: &mut Vec<u8>,
     session: &Session,
     steps: &mut Steps<L>,
@@ -77,14 +67,13 @@ fn put_groups<L: Ledger>(
     ensures ok { OnOk result (out.new.items ≡ out.old.items ++ flat_map (lines_of_group session.now) session.now.groups) }
 {
     for place in 0..session.group_count() {
-        put_group_at(alloc, out, session, place, steps)?;
+        put_group_at(out, session, place, steps)?;
     }
     Ok(())
 }
 
-/// Appends the group at a place, if one stands there.
+/// Appends the group at a place, if one stands there: its name, the number of its keys, and a line for each.
 fn put_group_at<L: Ledger>(
-    alloc: Global,
     out: &mut Vec<u8>,
     session: &Session,
     place: usize,
@@ -92,39 +81,13 @@ fn put_group_at<L: Ledger>(
 ) -> Result<(), OutOfMemory>
     ensures ok { OnOk result (out.new.items ≡ out.old.items ++ lines_at (lines_of_group session.now) (slice_get session.now.groups place)) }
 {
-    match session.group_at(place) {
-        Some((name, id)) => {
-            let entries = session.group_entries(id, steps)?;
-            put_group(
-                alloc,
-                out,
-                name,
-                &session.group_form(id),
-                entries.as_slice(),
-            )
-        }
-        None => Ok(()),
-    }
-}
-
-/// Appends a group: its name, the number of its keys, and a line for each.
-fn put_group(
-    alloc: Global,
-    out: &mut Vec<u8>,
-    name: &str,
-    form: &KeyForm,
-    entries: &[KeyNumber],
-) -> Result<(), OutOfMemory>
-    ensures ok { OnOk result (out.new.items ≡ out.old.items ++ group_lines name.now form.now entries.now) }
-{
+    let Some((name, id)) = session.group_at(place) else {
+        return Ok(());
+    };
     out.extend_from_slice(b"group ")?;
     put_word(out, name.as_bytes())?;
     out.push(b' ')?;
-    put_number(out, entries.len() as u64)?;
+    put_number(out, session.group_size(id) as u64)?;
     out.push(b'\n')?;
-    let mut scratch = Vec::new(alloc);
-    for entry in entries {
-        put_entry(out, &mut scratch, form, &entry.key, entry.number)?;
-    }
-    Ok(())
+    session.put_entries(out, id, &session.group_form(id), steps)
 }

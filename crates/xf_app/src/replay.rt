@@ -62,16 +62,7 @@ pub fn replay<D: Depot, S: Sink, L: Ledger>(
     while !rest.is_empty() {
         let (line, later) = first_line(rest);
         rest = later;
-        if let Err(status) = advance(
-            alloc,
-            &mut session,
-            line,
-            &mut tally,
-            &mut out,
-            depot,
-            sink,
-            steps,
-        ) {
+        if let Err(status) = advance(&mut session, line, &mut tally, &mut out, depot, sink, steps) {
             return status;
         }
     }
@@ -84,7 +75,6 @@ pub fn replay<D: Depot, S: Sink, L: Ledger>(
 
 /// Does one line, and puts what is written for it. An error is the status with which the run ends.
 fn advance<D: Depot, S: Sink, L: Ledger>(
-    alloc: Global,
     session: &mut Session,
     line: &[u8],
     tally: &mut Tally,
@@ -101,7 +91,7 @@ fn advance<D: Depot, S: Sink, L: Ledger>(
     ensures told { IfSome (D.account depot.old).files (λ files.
         Advances files session.old tally.old line.now session.new tally.new (S.account sink.old) (S.account sink.new) result) }
 {
-    match step(alloc, session, line, tally, out, depot, steps) {
+    match step(session, line, tally, out, depot, steps) {
         Ok(()) if out.is_empty() => Ok(()),
         Ok(()) => put(sink, out.as_slice()),
         Err(SessionFault::ReadFault) => Err(Status::ReadFault),
@@ -112,7 +102,6 @@ fn advance<D: Depot, S: Sink, L: Ledger>(
 /// Does one line. What is to be put for it stands in `out` then, and nothing else; for a line that is no step that is
 /// nothing. Where memory is refused the line may be done already; the run ends then.
 fn step<D: Depot, L: Ledger>(
-    alloc: Global,
     session: &mut Session,
     line: &[u8],
     tally: &mut Tally,
@@ -132,14 +121,13 @@ fn step<D: Depot, L: Ledger>(
     out.clear();
     let reply = session.apply(line, depot, steps)?;
     put_step(out, tally.number + 1, &reply)?;
-    put_view_after(alloc, out, session, &reply, steps)?;
+    put_view_after(out, session, &reply, steps)?;
     tally.count(&reply);
     Ok(())
 }
 
 /// Appends the view that stands behind the text of a line: that of the session after an accepted one, else nothing.
 fn put_view_after<L: Ledger>(
-    alloc: Global,
     out: &mut Vec<u8>,
     session: &Session,
     reply: &Reply,
@@ -149,6 +137,6 @@ fn put_view_after<L: Ledger>(
 {
     match reply {
         Reply::Skipped | Reply::Refused(_) => Ok(()),
-        Reply::Changed(_) | Reply::Answer(_) => put_data_view(alloc, out, session, steps),
+        Reply::Changed(_) | Reply::Answer(_) => put_data_view(out, session, steps),
     }
 }

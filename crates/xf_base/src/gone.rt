@@ -40,6 +40,7 @@ impl Gone {
         self.marks.len()
     }
 
+    /// Whether there are no places.
     pub fn is_empty(&self) -> bool
         ensures { result ≡ (length self.now == 0) }
     {

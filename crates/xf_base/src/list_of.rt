@@ -46,12 +46,14 @@ impl<T> ListOf<T> {
         items
     }
 
+    /// The number of items.
     pub fn len(&self) -> usize
         ensures { result ≡ length self.now }
     {
         self.items.len()
     }
 
+    /// Whether there are no items.
     pub fn is_empty(&self) -> bool
         ensures { result ≡ (length self.now == 0) }
     {
@@ -95,6 +97,7 @@ impl<T: Drop> ListOf<T> {
         self.items.push(item)?;
         Ok(())
     }
+
     /// Keeps the items whose places are not removed, in order. It takes no memory.
     pub fn retain(&mut self, gone: &Gone)
         requires { length gone.now ≡ length self.old }

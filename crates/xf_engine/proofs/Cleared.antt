@@ -11,11 +11,13 @@ use Rattle.xf_engine.specs.Changes.{once_filtered, unfiltered, without_filters}
 use Rattle.xf_engine.specs.Held.{HoldsKeysOf, held_count, held_moved, held_unfiltered, live_dimension, live_dimensions, most_moved, state_of}
 use Rattle.xf_engine.specs.declared.dimension.Dimension.{Dimension}
 use Rattle.xf_engine.specs.declared.events.Events.{Events}
-use Rattle.xf_engine.specs.declared.group.Group.{Group}
+use Rattle.xf_engine.specs.declared.grouping.Grouping.{Grouping}
+use Rattle.xf_engine.specs.declared.whole.Whole.{Whole}
 use Rattle.xf_filter.specs.declared.filter.Filter.TheVariants.{All}
 use Rattle.xf_engine.proofs.HeldCounts.{moved-held}
 use Rattle.xf_engine.proofs.MovedKeys.{sum_more}
 use Rattle.xf_engine.proofs.Swept.{swept, swept_at}
+use Rattle.xf_group.specs.Group.{Grouped}
 use Rattle.xf_table.specs.Table.{Contents}
 
 -- the element that is changed next is as it was, and counts beside those before it
@@ -41,10 +43,10 @@ pub holds-cleared : {A P : Type 0} (keys_of : A → List Cell → List Key) (row
 holds-cleared keys_of rows [] hold = tt
 holds-cleared keys_of rows (one ∷ held) hold = (hold.0, holds-cleared keys_of rows held hold.1)
 
-cleared-live : {A P : Type 0} (held : List (Dimension A P)) → live_dimensions (map held_unfiltered held) ≡ map unfiltered (live_dimensions held)
+pub cleared-live : {A P : Type 0} (held : List (Dimension A P)) → live_dimensions (map held_unfiltered held) ≡ map unfiltered (live_dimensions held)
 cleared-live [] = refl
 cleared-live (one ∷ held) = ap (λ lives. unfiltered (live_dimension one) ∷ lives) (cleared-live held)
 
 -- what is held without filters is the state without them
-pub held-without_filters : {A G P : Type 0} (table : Contents) (held : List (Dimension A P)) (groups : List (Group G)) (events : Events) → state_of table (map held_unfiltered held) groups (once_filtered events) ≡ without_filters (state_of table held groups events)
-held-without_filters table held groups events = ap (λ lives. record (state_of table held groups events) { dimensions = lives; events = once_filtered events }) (cleared-live held)
+pub held-without_filters : {A G P R V : Type 0} (table : Contents) (held : List (Dimension A P)) (groups : List (Grouping G (Grouped R V))) (wholes : List (Whole R V)) (events : Events) → state_of table (map held_unfiltered held) groups wholes (once_filtered events) ≡ without_filters (state_of table held groups wholes events)
+held-without_filters table held groups wholes events = ap (λ lives. record (state_of table held groups wholes events) { dimensions = lives; events = once_filtered events }) (cleared-live held)

@@ -3,11 +3,12 @@ use Rattle.std.proofs.Common.{◌≡◌, ℕ, zero, suc, ◌+◌, ◌<◌, ◌�
 use Rattle.std.proofs.lemmas.Bool.Decides.{nat_tests}
 use Rattle.std.proofs.lemmas.Bool.{cases_lt}
 use Rattle.std.specs.List.{filter, list_any, position, position_or_len}
-use Rattle.xf_engine.specs.Held.{held_group_ids, held_ids, live_dimensions, live_groups}
-use Rattle.xf_engine.proofs.Named.{position_live, position_live_group}
+use Rattle.xf_engine.specs.Held.{held_group_ids, held_ids, held_whole_ids, live_dimensions}
+use Rattle.xf_engine.proofs.Named.{position_live}
 use Rattle.xf_engine.specs.declared.dimension.Dimension.{Dimension}
-use Rattle.xf_engine.specs.declared.group.Group.{Group}
-use Rattle.xf_engine.specs.State.{group_has_id, has_id, id_numbers, is_taken}
+use Rattle.xf_engine.specs.declared.grouping.Grouping.{Grouping}
+use Rattle.xf_engine.specs.declared.whole.Whole.{Whole}
+use Rattle.xf_engine.specs.State.{has_id, id_numbers, is_taken}
 use Rattle.xf_engine.specs.declared.ids.DimensionId.{DimensionId}
 
 -- the ids but one
@@ -94,9 +95,11 @@ pub taken_dimension : {A P : Type 0} (id : ℕ) (held : List (Dimension A P)) �
 taken_dimension id held =
     ap is_some (position_live id held) ∙ sym (taken-placed (λ dimension. dimension.id.0 == id) held) ∙ sym (taken-held (λ dimension. dimension.id.0) id held)
 
-pub taken_group : {G : Type 0} (id : ℕ) (held : List (Group G)) → is_some (position (group_has_id id) (live_groups held)) ≡ is_taken (held_group_ids held) id
-taken_group id held =
-    ap is_some (position_live_group id held) ∙ sym (taken-placed (λ group. group.id.0 == id) held) ∙ sym (taken-held (λ group. group.id.0) id held)
+pub taken_group : {G T : Type 0} (id : ℕ) (held : List (Grouping G T)) → is_some (position (λ group. group.id.0 == id) held) ≡ is_taken (held_group_ids held) id
+taken_group id held = sym (taken-placed (λ group. group.id.0 == id) held) ∙ sym (taken-held (λ group. group.id.0) id held)
+
+pub taken_whole : {R V : Type 0} (id : ℕ) (held : List (Whole R V)) → is_some (position (λ whole. whole.id.0 == id) held) ≡ is_taken (held_whole_ids held) id
+taken_whole id held = sym (taken-placed (λ whole. whole.id.0 == id) held) ∙ sym (taken-held (λ whole. whole.id.0) id held)
 
 -- where nothing of an id has a place it is free, and where something has it is taken
 pub free-unplaced : {X : Type 0} (of : X → ℕ) (id : ℕ) (xs : List X) → position (λ x. of x == id) xs ≡ None → is_taken (map of xs) id ≡ false

@@ -12,13 +12,15 @@ use Rattle.xf_base.specs.declared.column.Column.{Column}
 use Rattle.xf_base.specs.declared.key.Key.{Key}
 use Rattle.xf_base.specs.declared.kind.KeyKind.{KeyKind}
 use Rattle.xf_engine.specs.Answers.{moved_to}
-use Rattle.xf_engine.specs.Held.{HoldsKeysOf, IsCross, held_count, live_dimension, live_dimensions, live_group, live_groups, more_count, with_keys_of}
-use Rattle.xf_engine.specs.State.{LiveDimension, LiveGroup, entries_by}
+use Rattle.xf_engine.specs.Held.{HoldsKeysOf, held_count, live_dimension, live_dimensions, live_group, live_groups, live_whole, live_wholes, more_count, state_of, with_keys_of}
+use Rattle.xf_engine.specs.State.{IsState, LiveDimension, LiveGroup, LiveWhole, entries_by}
 use Rattle.xf_engine.specs.declared.dimension.Dimension.{Dimension}
 use Rattle.xf_engine.specs.declared.events.Events.{Events}
-use Rattle.xf_engine.specs.declared.group.Group.{Group}
+use Rattle.xf_engine.specs.declared.grouping.Grouping.{Grouping}
+use Rattle.xf_engine.specs.declared.whole.Whole.{Whole}
 use Rattle.xf_filter.specs.Filter.{filter_of}
 use Rattle.xf_filter.specs.declared.filter.Filter.{Filter}
+use Rattle.xf_group.specs.Group.{Grouped}
 use Rattle.xf_model.specs.Moved.{moved_keys}
 use Rattle.xf_table.specs.Table.{Contents}
 
@@ -33,10 +35,15 @@ live-at Q held place d all within here =
     let at : get_or (live_dimensions held) place (live_dimension d) ≡ live_dimension d = get_or-map live_dimension held place d (live_dimension d) within ∙ ap live_dimension (sym here) in
     subst Q at (all-get Q (live_dimensions held) place (live_dimension d) (omega (arith, within, length-map held live_dimension)) all)
 
-pub live-group-at : {G : Type 0} (P : LiveGroup G → Type 0) (held : List (Group G)) (place : ℕ) (d : Group G) → AllByRecursion P (live_groups held) → place < length held → d ≡ get_or held place d → P (live_group d)
+pub live-group-at : {G R V : Type 0} (P : LiveGroup G R → Type 0) (held : List (Grouping G (Grouped R V))) (place : ℕ) (d : Grouping G (Grouped R V)) → AllByRecursion P (live_groups held) → place < length held → d ≡ get_or held place d → P (live_group d)
 live-group-at P held place d all within here =
     let at : get_or (live_groups held) place (live_group d) ≡ live_group d = get_or-map live_group held place d (live_group d) within ∙ ap live_group (sym here) in
     subst P at (all-get P (live_groups held) place (live_group d) (omega (arith, within, length-map held live_group)) all)
+
+pub live-whole-at : {R V : Type 0} (P : LiveWhole R → Type 0) (held : List (Whole R V)) (place : ℕ) (d : Whole R V) → AllByRecursion P (live_wholes held) → place < length held → d ≡ get_or held place d → P (live_whole d)
+live-whole-at P held place d all within here =
+    let at : get_or (live_wholes held) place (live_whole d) ≡ live_whole d = get_or-map live_whole held place d (live_whole d) within ∙ ap live_whole (sym here) in
+    subst P at (all-get P (live_wholes held) place (live_whole d) (omega (arith, within, length-map held live_whole)) all)
 
 pub keys-at : {A P : Type 0} (keys_of : A → List Cell → List Key) (rows : List (List Cell)) (held : List (Dimension A P)) (place : ℕ) (d : Dimension A P) → AllByRecursion (HoldsKeysOf keys_of rows) held → place < length held → d ≡ get_or held place d → HoldsKeysOf keys_of rows d
 keys-at keys_of rows held place d all within here = subst (HoldsKeysOf keys_of rows) (sym here) (all-get (HoldsKeysOf keys_of rows) held place d within all)
@@ -52,15 +59,15 @@ sum-part f (x ∷ xs) zero d e = omega (arith, sum_by-cons f x xs)
 sum-part f (x ∷ xs) (suc i) d e = omega (arith, sum_by-cons f x xs, sum-part f xs i d (omega (arith, e)))
 
 -- the keys of a dimension are few
-pub held-few : {A G P : Type 0} (keys_of : A → List Cell → List Key) (fits_to : A → List Column → Bool) (kind_of : A → KeyKind) (keys_in : P → List Key) (table : Contents) (dimensions : List (Dimension A P)) (groups : List (Group G)) (events : Events) (place : ℕ) (d : Dimension A P) → IsCross keys_of fits_to kind_of keys_in table dimensions groups events → place < length dimensions → d ≡ get_or dimensions place d → sum_by length d.keys + length d.keys < 2 ^ 64
-held-few {A} {G} {P} keys_of fits_to kind_of keys_in table dimensions groups events place d is within here =
-    let keys : d.keys ≡ map (keys_of d.accessor) table.rows = keys-at keys_of table.rows dimensions place d is.keys within here in
+pub held-few : {A G P R V : Type 0} (keys_of : A → List Cell → List Key) (fits_to : A → List Column → Bool) (kind_of : A → KeyKind) (keys_in : P → List Key) (suits : R → List Column → Bool) (fields : R → ℕ) (table : Contents) (dimensions : List (Dimension A P)) (groups : List (Grouping G (Grouped R V))) (wholes : List (Whole R V)) (events : Events) (place : ℕ) (d : Dimension A P) → IsState keys_of fits_to kind_of keys_in suits fields (state_of table dimensions groups wholes events) → AllByRecursion (HoldsKeysOf keys_of table.rows) dimensions → place < length dimensions → d ≡ get_or dimensions place d → sum_by length d.keys + length d.keys < 2 ^ 64
+held-few {A} {G} {P} keys_of fits_to kind_of keys_in suits fields table dimensions groups wholes events place d is hold within here =
+    let keys : d.keys ≡ map (keys_of d.accessor) table.rows = keys-at keys_of table.rows dimensions place d hold within here in
     let rows : length d.keys ≡ length table.rows = ap length keys ∙ length-map table.rows (keys_of d.accessor) in
     let entries : sum_by length d.keys ≡ entries_by keys_of table.rows d.accessor = ap (sum_by length) keys ∙ sum-map length (keys_of d.accessor) table.rows in
     let by : LiveDimension A P → ℕ = λ live. entries_by keys_of table.rows live.accessor in
     let part : by (get_or (live_dimensions dimensions) place (live_dimension d)) ≤ sum_by by (live_dimensions dimensions) = sum-part by (live_dimensions dimensions) place (live_dimension d) (omega (arith, within, length-map dimensions live_dimension)) in
     let same : by (get_or (live_dimensions dimensions) place (live_dimension d)) ≡ entries_by keys_of table.rows d.accessor = ap by (get_or-map live_dimension dimensions place d (live_dimension d) within ∙ ap live_dimension (sym here)) in
-    omega (arith, rows, entries, part, same, is.state.few_rows, is.state.few_entries, is.state.limits.rows, is.state.limits.entries)
+    omega (arith, rows, entries, part, same, is.few_rows, is.few_entries, is.limits.rows, is.limits.entries)
 
 -- what moves among the keys that are held is what moves among the rows
 pub moved-held : {A P : Type 0} (keys_of : A → List Cell → List Key) (says : P → Key → Bool) (rows : List (List Cell)) (d : Dimension A P) (new : Filter P) → HoldsKeysOf keys_of rows d → sum_by (moved_keys (filter_of says d.filter) (filter_of says new)) d.keys ≡ moved_to keys_of says rows new (live_dimension d)

@@ -1,4 +1,4 @@
--- Dimensions and groups by their ids.
+-- Dimensions, groups and wholes by their ids.
 use Rattle.std.proofs.Common.{◌≡◌, ℕ, ◌+◌, ◌<◌, ◌≤◌, ◌==◌, nat_lt, not, Bool, true, false, cond, List, [], ◌∷◌, Some, None, length, map, get_or, slice_get, refl, ap, ◌∙◌, arith}
 use Rattle.std.proofs.lemmas.Bool.Decides.{nat_tests}
 use Rattle.std.proofs.lemmas.List.{get_or-map, length-map}
@@ -7,10 +7,12 @@ use Rattle.std.proofs.lemmas.List.Quantifiers.{position-Some}
 use Rattle.std.proofs.lemmas.List.Sums.{position_or_len_is}
 use Rattle.std.proofs.lemmas.Option.{slice_get-get_or, slice_get_past}
 use Rattle.std.specs.List.{find, position, position_or_len}
-use Rattle.xf_engine.specs.Held.{live_dimension, live_dimensions, live_group, live_groups}
-use Rattle.xf_engine.specs.State.{group_has_id, has_id}
+use Rattle.xf_engine.specs.Held.{live_dimension, live_dimensions, live_group, live_groups, live_whole, live_wholes}
+use Rattle.xf_engine.specs.State.{group_has_id, has_id, whole_has_id}
 use Rattle.xf_engine.specs.declared.dimension.Dimension.{Dimension}
-use Rattle.xf_engine.specs.declared.group.Group.{Group}
+use Rattle.xf_engine.specs.declared.grouping.Grouping.{Grouping}
+use Rattle.xf_engine.specs.declared.whole.Whole.{Whole}
+use Rattle.xf_group.specs.Group.{Grouped}
 
 -- what is mapped is found where it was
 position_or_len_map : {X Y : Type 0} (p : Y → Bool) (f : X → Y) (xs : List X) → position_or_len p (map f xs) ≡ position_or_len (λ x. p (f x)) xs
@@ -25,8 +27,11 @@ position_map p f xs =
 pub position_live : {A P : Type 0} (id : ℕ) (held : List (Dimension A P)) → position (has_id id) (live_dimensions held) ≡ position (λ dimension. dimension.id.0 == id) held
 position_live id held = position_map (has_id id) live_dimension held
 
-pub position_live_group : {G : Type 0} (id : ℕ) (held : List (Group G)) → position (group_has_id id) (live_groups held) ≡ position (λ group. group.id.0 == id) held
+pub position_live_group : {G R V : Type 0} (id : ℕ) (held : List (Grouping G (Grouped R V))) → position (group_has_id id) (live_groups held) ≡ position (λ group. group.id.0 == id) held
 position_live_group id held = position_map (group_has_id id) live_group held
+
+pub position_live_whole : {R V : Type 0} (id : ℕ) (held : List (Whole R V)) → position (whole_has_id id) (live_wholes held) ≡ position (λ whole. whole.id.0 == id) held
+position_live_whole id held = position_map (whole_has_id id) live_whole held
 
 -- where a place is told, what is found stands there
 place-is : (n at place : ℕ) → cond (nat_lt at n) (Some at) None ≡ Some place → at ≡ place
@@ -61,7 +66,7 @@ position-none p [] none = refl
 position-none p (x ∷ xs) none = none-at p (x ∷ xs) x (none x)
 
 -- what is held at a place is found by its id
-pub find-placed-group : {G : Type 0} (id : ℕ) (held : List (Group G)) (place : ℕ) (d : Group G) → position (group_has_id id) (live_groups held) ≡ Some place → find (group_has_id id) (live_groups held) ≡ Some (live_group (get_or held place d))
+pub find-placed-group : {G R V : Type 0} (id : ℕ) (held : List (Grouping G (Grouped R V))) (place : ℕ) (d : Grouping G (Grouped R V)) → position (group_has_id id) (live_groups held) ≡ Some place → find (group_has_id id) (live_groups held) ≡ Some (live_group (get_or held place d))
 find-placed-group id held place d told =
     let within : place < length held = omega (arith, (position-Some (group_has_id id) (live_groups held) place (live_group d) told).0, length-map held live_group) in
     find-placed (group_has_id id) (live_groups held) place (live_group d) told ∙ ap Some (get_or-map live_group held place d (live_group d) within)
@@ -70,3 +75,8 @@ pub find-placed-dimension : {A P : Type 0} (id : ℕ) (held : List (Dimension A 
 find-placed-dimension id held place d told =
     let within : place < length held = omega (arith, (position-Some (has_id id) (live_dimensions held) place (live_dimension d) told).0, length-map held live_dimension) in
     find-placed (has_id id) (live_dimensions held) place (live_dimension d) told ∙ ap Some (get_or-map live_dimension held place d (live_dimension d) within)
+
+pub find-placed-whole : {R V : Type 0} (id : ℕ) (held : List (Whole R V)) (place : ℕ) (d : Whole R V) → position (whole_has_id id) (live_wholes held) ≡ Some place → find (whole_has_id id) (live_wholes held) ≡ Some (live_whole (get_or held place d))
+find-placed-whole id held place d told =
+    let within : place < length held = omega (arith, (position-Some (whole_has_id id) (live_wholes held) place (live_whole d) told).0, length-map held live_whole) in
+    find-placed (whole_has_id id) (live_wholes held) place (live_whole d) told ∙ ap Some (get_or-map live_whole held place d (live_whole d) within)

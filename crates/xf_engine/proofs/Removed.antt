@@ -15,9 +15,11 @@ use Rattle.xf_engine.specs.Held.{HoldsKeysOf, keys_pass, live_dimension, live_di
 use Rattle.xf_engine.specs.State.{IsState, LiveDimension, State, dimensions_of, entries_by}
 use Rattle.xf_engine.specs.declared.dimension.Dimension.{Dimension}
 use Rattle.xf_engine.specs.declared.events.Events.{Events}
-use Rattle.xf_engine.specs.declared.group.Group.{Group}
+use Rattle.xf_engine.specs.declared.grouping.Grouping.{Grouping}
+use Rattle.xf_engine.specs.declared.whole.Whole.{Whole}
 use Rattle.xf_engine.proofs.Passes.{passes_each_at-row}
 use Rattle.xf_filter.specs.declared.filter.Filter.{Filter}
+use Rattle.xf_group.specs.Group.{Grouped}
 use Rattle.xf_model.specs.Dimension.{passes_each}
 use Rattle.xf_table.specs.Table.{Contents, kept_rows}
 
@@ -63,13 +65,13 @@ pub holds-kept : {A P : Type 0} (keys_of : A → List Cell → List Key) (rows :
 holds-kept keys_of rows [] gone hold = tt
 holds-kept keys_of rows (one ∷ held) gone hold = (ap (kept gone) hold.0 ∙ kept-map (keys_of one.accessor) gone rows, holds-kept keys_of rows held gone hold.1)
 
-retained-live : {A P : Type 0} (gone : List Bool) (held : List (Dimension A P)) → live_dimensions (map (retained_keys gone) held) ≡ live_dimensions held
+pub retained-live : {A P : Type 0} (gone : List Bool) (held : List (Dimension A P)) → live_dimensions (map (retained_keys gone) held) ≡ live_dimensions held
 retained-live gone [] = refl
 retained-live gone (one ∷ held) = ap (λ lives. live_dimension one ∷ lives) (retained-live gone held)
 
 -- what is held without the rows that are gone is the state without them
-pub held-with_kept : {A G P : Type 0} (table : Contents) (held : List (Dimension A P)) (groups : List (Group G)) (events : Events) (gone : List Bool) → state_of (kept_rows gone table) (map (retained_keys gone) held) groups (once_removed events) ≡ with_kept gone (state_of table held groups events)
-held-with_kept table held groups events gone = ap (λ lives. record (with_kept gone (state_of table held groups events)) { dimensions = lives }) (retained-live gone held)
+pub held-with_kept : {A G P R V : Type 0} (table : Contents) (held : List (Dimension A P)) (groups : List (Grouping G (Grouped R V))) (wholes : List (Whole R V)) (events : Events) (gone : List Bool) → state_of (kept_rows gone table) (map (retained_keys gone) held) groups wholes (once_removed events) ≡ with_kept gone (state_of table held groups wholes events)
+held-with_kept table held groups wholes events gone = ap (λ lives. record (with_kept gone (state_of table held groups wholes events)) { dimensions = lives }) (retained-live gone held)
 
 -- a state stays sound
 entries-kept : {A P : Type 0} (keys_of : A → List Cell → List Key) (lives : List (LiveDimension A P)) (gone : List Bool) (rows : List (List Cell)) → sum_by (λ live. entries_by keys_of (kept gone rows) live.accessor) lives ≤ sum_by (λ live. entries_by keys_of rows live.accessor) lives
@@ -83,15 +85,19 @@ entries-kept {A} {P} keys_of (live ∷ lives) gone rows =
       entries-kept keys_of lives gone rows,
     )
 
-pub sound-with_kept : {A G P : Type 0} (keys_of : A → List Cell → List Key) (fits_to : A → List Column → Bool) (kind_of : A → KeyKind) (keys_in : P → List Key) (state : State A G P) (gone : List Bool) → IsState keys_of fits_to kind_of keys_in state → IsState keys_of fits_to kind_of keys_in (with_kept gone state)
-sound-with_kept keys_of fits_to kind_of keys_in state gone is =
+pub sound-with_kept : {A G P R : Type 0} (keys_of : A → List Cell → List Key) (fits_to : A → List Column → Bool) (kind_of : A → KeyKind) (keys_in : P → List Key) (suits : R → List Column → Bool) (fields : R → ℕ) (state : State A G P R) (gone : List Bool) → IsState keys_of fits_to kind_of keys_in suits fields state → IsState keys_of fits_to kind_of keys_in suits fields (with_kept gone state)
+sound-with_kept keys_of fits_to kind_of keys_in suits fields state gone is =
     record {
       limits = is.limits;
       of_schema = kept-all (IsRowOf state.columns) gone state.rows is.of_schema;
       fit = is.fit;
       filters = is.filters;
+      group_fit = is.group_fit;
+      group_fields = is.group_fields;
+      whole_fit = is.whole_fit;
       distinct = is.distinct;
       distinct_groups = is.distinct_groups;
+      distinct_wholes = is.distinct_wholes;
       live = is.live;
       few_rows = omega (arith, kept-fewer gone state.rows, is.few_rows);
       few_entries = omega (arith, entries-kept keys_of state.dimensions gone state.rows, is.few_entries);
@@ -132,7 +138,7 @@ marks-keys says filter keys [] = refl
 marks-keys says filter keys (row ∷ rows) = ap (λ rest. keys_pass says filter (keys row) ∷ rest) (marks-keys says filter keys rows)
 
 -- what a test marked is gone
-pub kept-without : {A G P : Type 0} (test : List Cell → Bool) (state : State A G P) (gone : List Bool) → gone ≡ map test state.rows → with_kept gone state ≡ without_rows test state
+pub kept-without : {A G P R : Type 0} (test : List Cell → Bool) (state : State A G P R) (gone : List Bool) → gone ≡ map test state.rows → with_kept gone state ≡ without_rows test state
 kept-without test state gone marked =
     ap (λ rows. record state { rows = rows; events = once_removed state.events }) (ap (λ marks. kept marks state.rows) marked ∙ kept-tested test state.rows)
 

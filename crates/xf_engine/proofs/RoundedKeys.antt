@@ -1,61 +1,95 @@
--- What a group sees of one row, key by key.
-use Rattle.std.proofs.Common.{◌≡◌, ℕ, ◌+◌, ◌<◌, Bool, true, false, List, [], ◌∷◌, ◌++◌, length, get_or, map, take, drop, append_assoc, refl, sym, ap, ◌∙◌}
-use Rattle.std.proofs.lemmas.List.{map-append, take_more}
-use Rattle.std.specs.List.{list_any}
-use Rattle.std.specs.Ordering.{is_eq}
-use Rattle.xf_base.specs.Key.{key_cmp}
-use Rattle.xf_base.specs.declared.key.Key.{Key}
-use Rattle.xf_engine.specs.KeyRow.{each_once, key_row, key_rows_of, with_last, with_row}
-use Rattle.xf_engine.specs.declared.group.KeyRow.{KeyRow}
-use Rattle.xf_engine.proofs.EachOnce.{by_test, each_once-push, with_last-new, with_last-same}
-use Rattle.xf_model.specs.Laws.{is_among}
+-- A key that goes among ascending keys from the first on, and keys that go there from the last on.
+use Rattle.std.proofs.Common.{◌≡◌, ℕ, ◌+◌, ◌<◌, ◌≤◌, List, [], ◌∷◌, ◌++◌, append_assoc, drop, get_or, length, map, slice_get, Some, suc, sym, take, zero, ap, ◌∙◌, arith}
+use Rattle.std.proofs.lemmas.List.{drop_all, drop_more, length-map, map-append, take-append-drop, take_all, take_more}
+use Rattle.std.specs.Cmp.{IsTotalOrder}
+use Rattle.std.specs.List.{AllByRecursion}
+use Rattle.std.specs.List.Sorted.{IsStrictlySortedBy}
+use Rattle.std.specs.Ordering.{ordering_reverse}
+use Rattle.std.specs.declared.cmp.Ordering.{Ordering}
+use Rattle.std.specs.declared.cmp.Ordering.TheVariants.{Less, Equal, Greater}
+use Rattle.std.proofs.lemmas.Cmp.{tied_back}
+use Rattle.xf_model.proofs.AscendingKeys.{sorted-distinct_keys}
+use Rattle.xf_model.specs.Group.{distinct_keys, with_key}
 
--- what lies behind a list that another begins with
-behind : {X : Type 0} (xs ys : List X) → drop (length xs) (xs ++ ys) ≡ ys
-behind [] ys = refl
-behind (x ∷ xs) ys = behind xs ys
+-- a key that is above all keys so far
+abbrev pub IsAbove : {Key : Type 0} → (Key → Key → Ordering) → Key → List Key → ℕ → Type 0
+IsAbove cmp key keys place = take place keys ++ with_key cmp key (drop place keys) ≡ with_key cmp key keys
 
--- a key is the same as one of those that are seen where it is among the keys
-among_seen : (passes : Bool) (key : Key) (keys : List Key) → list_any (λ (own : KeyRow). is_eq (key_cmp key own.key)) (map (key_row passes) keys) ≡ is_among key_cmp keys key
-among_seen passes key [] = refl
-among_seen passes key (own ∷ keys) = rw (among_seen passes key keys)
+below_first : {Key : Type 0} (cmp : Key → Key → Ordering) (key first : Key) (rest : List Key) → cmp key first ≡ Less → with_key cmp key (first ∷ rest) ≡ key ∷ first ∷ rest
+below_first cmp key first rest less = rw less
 
-with_row-same : (start : ℕ) (rows : List KeyRow) (row : KeyRow) → list_any (λ (own : KeyRow). is_eq (key_cmp row.key own.key)) (drop start rows) ≡ true → with_row start rows row ≡ rows
-with_row-same start rows row among = rw among
+tied_first : {Key : Type 0} {cmp : Key → Key → Ordering} → IsTotalOrder cmp → (key first : Key) (rest : List Key) → cmp key first ≡ Equal → with_key cmp key (first ∷ rest) ≡ first ∷ rest
+tied_first {Key} {cmp} order key first rest equal =
+    let back : cmp first key ≡ Equal = tied_back order key first equal in
+    rw (equal, back)
 
-with_row-new : (start : ℕ) (rows : List KeyRow) (row : KeyRow) → list_any (λ (own : KeyRow). is_eq (key_cmp row.key own.key)) (drop start rows) ≡ false → with_row start rows row ≡ rows ++ row ∷ []
-with_row-new start rows row not_among = rw not_among
+above_first : {Key : Type 0} {cmp : Key → Key → Ordering} → IsTotalOrder cmp → (key first : Key) (rest : List Key) → cmp key first ≡ Greater → with_key cmp key (first ∷ rest) ≡ first ∷ with_key cmp key rest
+above_first {Key} {cmp} order key first rest greater =
+    let less : cmp first key ≡ Less = order.antisymm first key ∙ ap ordering_reverse greater in
+    rw (greater, less)
 
--- one key more of what is seen of a row
-seen_more : (base : List KeyRow) (passes : Bool) (keys : List Key) (key : Key) → with_row (length base) (base ++ map (key_row passes) keys) (key_row passes key) ≡ base ++ map (key_row passes) (with_last key_cmp keys key)
-seen_more base passes keys key =
-    let seen : List KeyRow = map (key_row passes) keys in
-    let test : KeyRow → Bool = λ own. is_eq (key_cmp key own.key) in
-    let found : list_any test (drop (length base) (base ++ seen)) ≡ is_among key_cmp keys key = ap (list_any test) (behind base seen) ∙ among_seen passes key keys in
-    by_test (is_among key_cmp keys key)
-    (λ among.
-    with_row-same (length base) (base ++ seen) (key_row passes key) (found ∙ among)
-    ∙ ap (λ ks. base ++ map (key_row passes) ks) (sym (with_last-same key_cmp keys key among)))
-    (λ not_among.
-    with_row-new (length base) (base ++ seen) (key_row passes key) (found ∙ not_among)
-    ∙ append_assoc base seen (key_row passes key ∷ [])
-    ∙ ap (λ rows. base ++ rows) (sym (map-append (key_row passes) keys (key ∷ [])))
-    ∙ ap (λ ks. base ++ map (key_row passes) ks) (sym (with_last-new key_cmp keys key not_among)))
+-- the keys from a place on begin with the one that stands there
+from_place : {Key : Type 0} (keys : List Key) (place : ℕ) (first : Key) → place < length keys → first ≡ get_or keys place first → drop place keys ≡ first ∷ drop (place + 1) keys
+from_place keys place first within is = drop_more keys place first within ∙ ap (λ key. key ∷ drop (place + 1) keys) (sym is)
 
--- the keys of a row so far, each once, and the next
-each_once-next : (round : Key → Key) (keys : List Key) (i : ℕ) (d : Key) → i < length keys → each_once key_cmp (map round (take (i + 1) keys)) ≡ with_last key_cmp (each_once key_cmp (map round (take i keys))) (round (get_or keys i d))
-each_once-next round keys i d within =
-    ap (λ ks. each_once key_cmp (map round ks)) (take_more keys i d within)
-    ∙ ap (each_once key_cmp) (map-append round (take i keys) (get_or keys i d ∷ []))
-    ∙ each_once-push key_cmp (map round (take i keys)) (round (get_or keys i d))
+-- where the next is greater, the key goes before it
+pub inserted-less : {Key : Type 0} (cmp : Key → Key → Ordering) (key : Key) (keys : List Key) (place : ℕ) (first : Key) → place < length keys → first ≡ get_or keys place first → IsAbove cmp key keys place → cmp key first ≡ Less → take place keys ++ key ∷ drop place keys ≡ with_key cmp key keys
+inserted-less cmp key keys place first within is above less =
+    let begins = from_place keys place first within is in
+    ap (λ rest. take place keys ++ key ∷ rest) begins
+    ∙ ap (λ rest. take place keys ++ rest) (sym (below_first cmp key first (drop (place + 1) keys) less))
+    ∙ ap (λ rest. take place keys ++ with_key cmp key rest) (sym begins)
+    ∙ above
 
--- a step of the walk over a row's keys
-pub rounded_more : (base before after : List KeyRow) (start : ℕ) (passes : Bool) (round : Key → Key) (keys : List Key) (i : ℕ) (d key : Key) → i < length keys → before ≡ base ++ key_rows_of passes (map round (take i keys)) → start ≡ length base → key ≡ round (get_or keys i d) → after ≡ with_row start before (key_row passes key) → after ≡ base ++ key_rows_of passes (map round (take (i + 1) keys))
-rounded_more base before after start passes round keys i d key within so_far begins is pushed =
-    let once : List Key = each_once key_cmp (map round (take i keys)) in
+-- where the next is the key, nothing changes
+pub inserted-equal : {Key : Type 0} {cmp : Key → Key → Ordering} → IsTotalOrder cmp → (key : Key) (keys : List Key) (place : ℕ) (first : Key) → place < length keys → first ≡ get_or keys place first → IsAbove cmp key keys place → cmp key first ≡ Equal → keys ≡ with_key cmp key keys
+inserted-equal {Key} {cmp} order key keys place first within is above equal =
+    let begins = from_place keys place first within is in
+    sym (take-append-drop place keys)
+    ∙ ap (λ rest. take place keys ++ rest) begins
+    ∙ ap (λ rest. take place keys ++ rest) (sym (tied_first order key first (drop (place + 1) keys) equal))
+    ∙ ap (λ rest. take place keys ++ with_key cmp key rest) (sym begins)
+    ∙ above
+
+-- where the next is lower, the key is above it too
+pub above-next : {Key : Type 0} {cmp : Key → Key → Ordering} → IsTotalOrder cmp → (key : Key) (keys : List Key) (place : ℕ) (first : Key) → place < length keys → first ≡ get_or keys place first → IsAbove cmp key keys place → cmp key first ≡ Greater → IsAbove cmp key keys (place + 1)
+above-next {Key} {cmp} order key keys place first within is above greater =
+    let begins = from_place keys place first within is in
+    let later = drop (place + 1) keys in
+    ap (λ front. front ++ with_key cmp key later) (take_more keys place first within ∙ ap (λ key. take place keys ++ key ∷ []) (sym is))
+    ∙ append_assoc (take place keys) (first ∷ []) (with_key cmp key later)
+    ∙ ap (λ rest. take place keys ++ rest) (sym (above_first order key first later greater))
+    ∙ ap (λ rest. take place keys ++ with_key cmp key rest) (sym begins)
+    ∙ above
+
+-- a key that is above all goes to the end
+pub pushed-above : {Key : Type 0} (cmp : Key → Key → Ordering) (key : Key) (keys : List Key) (place : ℕ) → length keys ≤ place → IsAbove cmp key keys place → keys ++ key ∷ [] ≡ with_key cmp key keys
+pushed-above cmp key keys place past above =
+    ap (λ front. front ++ key ∷ []) (sym (take_all place keys past))
+    ∙ ap (λ rest. take place keys ++ with_key cmp key rest) (sym (drop_all place keys past))
+    ∙ above
+
+next_taken : {X : Type 0} (xs : List X) (place : ℕ) (x : X) → Some x ≡ slice_get xs place → take (suc place) xs ≡ take place xs ++ x ∷ []
+next_taken [] place x here = absurd cc
+next_taken (y ∷ xs) zero x here = let same : x ≡ y = cc in ap (λ z. z ∷ []) (sym same)
+next_taken (y ∷ xs) (suc place) x here = ap (λ rest. y ∷ rest) (next_taken xs place x here)
+
+-- what a function makes of the items so far, and of the next
+pub mapped-next : {X Y : Type 0} (f : X → Y) (xs : List X) (place : ℕ) (x : X) (done more : List Y) (y : Y) → Some x ≡ slice_get xs place → done ≡ map f (take place xs) → y ≡ f x → more ≡ done ++ y ∷ [] → more ≡ map f (take (place + 1) xs)
+mapped-next f xs place x done more y here so_far made pushed =
+    let next : place + 1 ≡ suc place = omega arith in
     pushed
-    ∙ ap (λ n. with_row n before (key_row passes key)) begins
-    ∙ ap (λ rows. with_row (length base) rows (key_row passes key)) so_far
-    ∙ seen_more base passes once key
-    ∙ ap (λ k. base ++ map (key_row passes) (with_last key_cmp once k)) is
-    ∙ ap (λ ks. base ++ map (key_row passes) ks) (sym (each_once-next round keys i d within))
+    ∙ ap (λ front. front ++ y ∷ []) so_far
+    ∙ ap (λ last. map f (take place xs) ++ last ∷ []) made
+    ∙ sym (map-append f (take place xs) (x ∷ []))
+    ∙ ap (map f) (sym (next_taken xs place x here))
+    ∙ ap (λ n. map f (take n xs)) (sym next)
+
+-- the rounded keys of each row ascend strictly
+pub rounded_lists-ascend : {Key : Type 0} {cmp : Key → Key → Ordering} → IsTotalOrder cmp → (round : Key → Key) (lists : List (List Key)) → AllByRecursion (IsStrictlySortedBy cmp) (map (λ keys. distinct_keys cmp (map round keys)) lists)
+rounded_lists-ascend order round [] = tt
+rounded_lists-ascend order round (keys ∷ lists) = (sorted-distinct_keys order (map round keys), rounded_lists-ascend order round lists)
+
+-- there are as many as rows
+pub rounded_lists-length : {Key : Type 0} (cmp : Key → Key → Ordering) (round : Key → Key) (lists : List (List Key)) → length (map (λ keys. distinct_keys cmp (map round keys)) lists) ≡ length lists
+rounded_lists-length cmp round lists = length-map lists (λ keys. distinct_keys cmp (map round keys))

@@ -2,6 +2,7 @@ pub mod State
 pub mod Changes
 pub mod Held
 pub mod Answers
-pub mod KeyRow
+pub mod Folding
 pub mod Refusals
 pub mod Listing
+pub mod Refolded

@@ -1,8 +1,9 @@
 -- What a crossfilter is seen as, and what its dimensions mean.
 --
 -- An accessor is of any type `A`, and `keys_of` says what its keys of a row are; a rounding is of any type `G`; a
--- predicate is of any type `P`, `says` tells of which keys it says yes, and `keys_in` which keys stand inside it.
-use Rattle.std.specs.Prelude.{◌≡◌, ℕ, ◌==◌, ◌≤◌, ◌<◌, Bool, true, false, List, [], ◌∷◌, length, map, sum_by, Option, None}
+-- predicate is of any type `P`, `says` tells of which keys it says yes, and `keys_in` which keys stand inside it; a reducer
+-- is of any type `R`, `suits` tells which columns it fits, and `fields` how many fields it has.
+use Rattle.std.specs.Prelude.{◌≡◌, ℕ, ◌+◌, ◌==◌, ◌≤◌, ◌<◌, Bool, true, false, List, [], ◌∷◌, length, map, sum_by, Option, None}
 use Rattle.std.specs.List.{AllByRecursion, find, list_any, position}
 use Rattle.xf_base.specs.Bounds.{AreLimits, Bounds}
 use Rattle.xf_base.specs.Schema.{IsRowOf}
@@ -22,20 +23,29 @@ pub record LiveDimension (A P : Type 0) : Type 0 where
   pub accessor : A
   pub filter : Filter P
 
--- a group: its id, that of its dimension, and what rounds its keys
-pub record LiveGroup (G : Type 0) : Type 0 where
+-- a group: its id, that of its dimension, what rounds its keys, what is kept of the rows of a key, and the field by which its
+-- top is ranked
+pub record LiveGroup (G R : Type 0) : Type 0 where
   pub id : ℕ
   pub dimension : ℕ
   pub rounding : G
+  pub reducer : R
+  pub field : ℕ
 
--- the columns, how much may be held, the rows in order of arrival, the dimensions and groups in order of creation, and
--- how often rows and filters were changed
-pub record State (A G P : Type 0) : Type 0 where
+-- a whole: its id, and what is kept of the rows
+pub record LiveWhole (R : Type 0) : Type 0 where
+  pub id : ℕ
+  pub reducer : R
+
+-- the columns, how much may be held, the rows in order of arrival, the dimensions, groups and wholes in order of creation,
+-- and how often rows and filters were changed
+pub record State (A G P R : Type 0) : Type 0 where
   pub columns : List Column
   pub limits : Bounds
   pub rows : List (List Cell)
   pub dimensions : List (LiveDimension A P)
-  pub groups : List (LiveGroup G)
+  pub groups : List (LiveGroup G R)
+  pub wholes : List (LiveWhole R)
   pub events : Events
 
 -- no event yet
@@ -49,26 +59,35 @@ dimension_of keys_of says live = record { keys = keys_of live.accessor; chosen =
 abbrev pub dimensions_of : {A P : Type 0} → (A → List Cell → List Key) → (P → Key → Bool) → List (LiveDimension A P) → List (Dimension (List Cell) Key)
 dimensions_of keys_of says lives = map (dimension_of keys_of says) lives
 
--- whether a dimension, or a group, has this id
+-- whether a dimension, a group or a whole has this id
 abbrev pub has_id : {A P : Type 0} → ℕ → LiveDimension A P → Bool
 has_id id live = live.id == id
 
-abbrev pub group_has_id : {G : Type 0} → ℕ → LiveGroup G → Bool
+abbrev pub group_has_id : {G R : Type 0} → ℕ → LiveGroup G R → Bool
 group_has_id id group = group.id == id
 
--- the place of the live dimension, or group, of an id
-abbrev pub dimension_place : {A G P : Type 0} → State A G P → ℕ → Option ℕ
+abbrev pub whole_has_id : {R : Type 0} → ℕ → LiveWhole R → Bool
+whole_has_id id whole = whole.id == id
+
+-- the place of the live dimension, group or whole of an id
+abbrev pub dimension_place : {A G P R : Type 0} → State A G P R → ℕ → Option ℕ
 dimension_place state id = position (has_id id) state.dimensions
 
-abbrev pub group_place : {A G P : Type 0} → State A G P → ℕ → Option ℕ
+abbrev pub group_place : {A G P R : Type 0} → State A G P R → ℕ → Option ℕ
 group_place state id = position (group_has_id id) state.groups
 
--- the live dimension, or group, of an id
-abbrev pub dimension_named : {A G P : Type 0} → State A G P → ℕ → Option (LiveDimension A P)
+abbrev pub whole_place : {A G P R : Type 0} → State A G P R → ℕ → Option ℕ
+whole_place state id = position (whole_has_id id) state.wholes
+
+-- the live dimension, group or whole of an id
+abbrev pub dimension_named : {A G P R : Type 0} → State A G P R → ℕ → Option (LiveDimension A P)
 dimension_named state id = find (has_id id) state.dimensions
 
-abbrev pub group_named : {A G P : Type 0} → State A G P → ℕ → Option (LiveGroup G)
+abbrev pub group_named : {A G P R : Type 0} → State A G P R → ℕ → Option (LiveGroup G R)
 group_named state id = find (group_has_id id) state.groups
+
+abbrev pub whole_named : {A G P R : Type 0} → State A G P R → ℕ → Option (LiveWhole R)
+whole_named state id = find (whole_has_id id) state.wholes
 
 -- whether an id is among those that are taken
 abbrev pub is_taken : List ℕ → ℕ → Bool
@@ -81,8 +100,11 @@ dimension_ids lives = map (λ live. live.id) lives
 abbrev pub id_numbers : List DimensionId → List ℕ
 id_numbers ids = map (λ id. id.0) ids
 
-abbrev pub group_ids : {G : Type 0} → List (LiveGroup G) → List ℕ
+abbrev pub group_ids : {G R : Type 0} → List (LiveGroup G R) → List ℕ
 group_ids groups = map (λ group. group.id) groups
+
+abbrev pub whole_ids : {R : Type 0} → List (LiveWhole R) → List ℕ
+whole_ids wholes = map (λ whole. whole.id) wholes
 
 -- the least id that is not taken
 pub record IsFreeId (ids : List ℕ) (id : ℕ) : Type 0 where
@@ -99,20 +121,25 @@ abbrev pub entries_by : {A : Type 0} → (A → List Cell → List Key) → List
 entries_by keys_of rows accessor = sum_by (λ row. length (keys_of accessor row)) rows
 
 -- how many entries rows have in all dimensions
-abbrev pub entry_count : {A G P : Type 0} → (A → List Cell → List Key) → State A G P → List (List Cell) → ℕ
+abbrev pub entry_count : {A G P R : Type 0} → (A → List Cell → List Key) → State A G P R → List (List Cell) → ℕ
 entry_count keys_of state rows = sum_by (λ live. entries_by keys_of rows live.accessor) state.dimensions
 
--- what is true of every crossfilter: the rows are of the schema, each accessor fits it, each filter's keys are of its
--- accessor's kind, ids differ, each group's dimension is live, and all is within the limits
-pub record IsState {A G P : Type 0} (keys_of : A → List Cell → List Key) (fits_to : A → List Column → Bool) (kind_of : A → KeyKind) (keys_in : P → List Key) (state : State A G P) : Type 0 where
+-- what is true of every crossfilter: the rows are of the schema, each accessor and each reducer fits it, each filter's keys
+-- are of its accessor's kind, each field is one of its reducer's, ids differ, each group's dimension is live, and all is
+-- within the limits
+pub record IsState {A G P R : Type 0} (keys_of : A → List Cell → List Key) (fits_to : A → List Column → Bool) (kind_of : A → KeyKind) (keys_in : P → List Key) (suits : R → List Column → Bool) (fields : R → ℕ) (state : State A G P R) : Type 0 where
   pub limits : AreLimits state.limits
   pub of_schema : AllByRecursion (IsRowOf state.columns) state.rows
   pub fit : AllByRecursion (λ live. fits_to live.accessor state.columns ≡ true) state.dimensions
   pub filters : AllByRecursion (λ live. first_other (kind_of live.accessor) (filter_keys keys_in live.filter) ≡ None) state.dimensions
+  pub group_fit : AllByRecursion (λ group. suits group.reducer state.columns ≡ true) state.groups
+  pub group_fields : AllByRecursion (λ group. group.field < fields group.reducer) state.groups
+  pub whole_fit : AllByRecursion (λ whole. suits whole.reducer state.columns ≡ true) state.wholes
   pub distinct : AreDistinct (dimension_ids state.dimensions)
   pub distinct_groups : AreDistinct (group_ids state.groups)
+  pub distinct_wholes : AreDistinct (whole_ids state.wholes)
   pub live : AllByRecursion (λ group. is_taken (dimension_ids state.dimensions) group.dimension ≡ true) state.groups
   pub few_rows : length state.rows ≤ state.limits.rows
   pub few_entries : entry_count keys_of state state.rows ≤ state.limits.entries
   pub few_dimensions : length state.dimensions ≤ state.limits.dimensions
-  pub few_groups : length state.groups ≤ state.limits.groups
+  pub few_groups : length state.groups + length state.wholes ≤ state.limits.groups

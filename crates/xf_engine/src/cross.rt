@@ -1,7 +1,7 @@
 //! The crossfilter. What is kept: the records, in the table, the keys of each record in each dimension, the filter that
-//! is set on each dimension, and how often records and filters were changed. What is computed each time that it is
-//! asked for: which records pass, what a new filter moves, the entries of a group, and the records with the least and
-//! the greatest keys. So nothing that is kept can be out of date.
+//! is set on each dimension, the values of groups and wholes, and how often records and filters were changed. After each
+//! change of records or filters all values are folded anew, and put in place when all are made. What is computed each time
+//! that it is asked for: which records pass, what a new filter moves, and the records with the least and the greatest keys.
 ghost use Rattle.std.specs.Prelude.{◌≡◌, ◌<◌, ◌≤◌, [], Some, length, slice_get, true};
 ghost use Rattle.xf_table.specs.Table.{text_of_rows};
 
@@ -11,52 +11,58 @@ mod groups;
 mod lists;
 mod records;
 mod removals;
+mod wholes;
 
 use crate::dimension::{Dimension, dimension_place};
 use crate::events::Events;
-use crate::group::{Group, group_place};
-use crate::ids::{DimensionId, GroupId};
+use crate::grouping::{Grouping, group_place};
+use crate::ids::{DimensionId, GroupId, WholeId};
+use crate::whole::{Whole, whole_place};
 use std::alloc::Global;
 use std::marker::Model;
 use std::sync::ledger::Ledger;
 use xf_access::{Accessor, Rounding};
 use xf_base::{Limits, Row, Schema, Steps};
 use xf_filter::Predicate;
+use xf_group::Group;
+use xf_reduce::Reducer;
 use xf_table::Table;
 
-/// The records that are present, the live dimensions with their filters, the live groups, and how often they
-/// were changed.
+/// The records that are present, the live dimensions with their filters, the live groups and wholes with their values, and
+/// how often records and filters were changed.
 #[derive(Drop)]
-pub struct Cross<A: Accessor, G: Rounding, P: Predicate> {
+pub struct Cross<A: Accessor, G: Rounding, P: Predicate, R: Reducer> {
     alloc: Global,
     table: Table,
     dimensions: Vec<Dimension<A, P>>,
-    groups: Vec<Group<G>>,
+    groups: Vec<Grouping<G, Group<R>>>,
+    wholes: Vec<Whole<R, R::Value>>,
     events: Events,
 }
 
-impl<A: Accessor, G: Rounding, P: Predicate> Model for Cross<A, G, P> {
+impl<A: Accessor, G: Rounding, P: Predicate, R: Reducer> Model for Cross<A, G, P, R> {
     ghost use Rattle.xf_engine.specs.State.{State};
 
-    ghost Value = { State A G P };
+    ghost Value = { State A G P R };
 
     ghost use Rattle.xf_engine.specs.Held.{IsCross, state_of};
 
-    ghost view = { λ cross. state_of cross.table cross.dimensions.items cross.groups.items cross.events };
+    ghost view = { λ cross. state_of cross.table cross.dimensions.items cross.groups.items cross.wholes.items cross.events };
 
-    ghost invariant = { λ cross. IsCross A.keys_of A.fits_to A.kind_of P.keys_in cross.table cross.dimensions.items cross.groups.items cross.events };
+    ghost invariant = { λ cross. IsCross A.keys_of A.fits_to A.kind_of P.says_to P.keys_in G.rounded R.fits_to R.field_count R.meaning_of R.folding cross.table cross.dimensions.items cross.groups.items cross.wholes.items cross.events };
 }
 
-impl<A: Accessor, G: Rounding, P: Predicate> Cross<A, G, P> {
-    ghost use Rattle.xf_engine.specs.State.{IsState, dimension_place, group_place, no_events};
+impl<A: Accessor, G: Rounding, P: Predicate, R: Reducer> Cross<A, G, P, R> {
+    ghost use Rattle.xf_engine.specs.State.{IsState, dimension_place, group_place, no_events, whole_place};
 
-    /// A crossfilter without records, dimensions and groups. It takes no memory yet.
-    pub fn new(alloc: Global, schema: Schema, limits: Limits) -> Cross<A, G, P>
+    /// A crossfilter without records, dimensions, groups and wholes. It takes no memory yet.
+    pub fn new(alloc: Global, schema: Schema, limits: Limits) -> Cross<A, G, P, R>
         ensures columns { result.columns ≡ schema }
         ensures limits { result.limits ≡ limits }
         ensures rows { result.rows ≡ [] }
         ensures dimensions { result.dimensions ≡ [] }
         ensures groups { result.groups ≡ [] }
+        ensures wholes { result.wholes ≡ [] }
         ensures events { result.events ≡ no_events }
     {
         let _sound = limits.is_sound();
@@ -65,6 +71,7 @@ impl<A: Accessor, G: Rounding, P: Predicate> Cross<A, G, P> {
             table: Table::new(alloc, schema, limits),
             dimensions: Vec::new(alloc),
             groups: Vec::new(alloc),
+            wholes: Vec::new(alloc),
             events: Events {
                 added: 0,
                 removed: 0,
@@ -123,10 +130,17 @@ impl<A: Accessor, G: Rounding, P: Predicate> Cross<A, G, P> {
         group_place(self.groups.as_slice(), id)
     }
 
+    /// The place of the whole of an id, among those that are live.
+    fn whole_place_of(&self, id: WholeId) -> Option<usize>
+        ensures { result ≡ whole_place self.now id.0 }
+    {
+        whole_place(self.wholes.as_slice(), id)
+    }
+
     /// True of every crossfilter: the clause tells a proof what each of them meets.
     pub fn is_sound(&self) -> bool
         ensures answer { result ≡ true }
-        ensures sound { IsState A.keys_of A.fits_to A.kind_of P.keys_in self.now }
+        ensures sound { IsState A.keys_of A.fits_to A.kind_of P.keys_in R.fits_to R.field_count self.now }
         ensures text { text_of_rows self.now.rows ≤ self.now.limits.text_bytes }
     {
         self.table.text() <= u64::MAX

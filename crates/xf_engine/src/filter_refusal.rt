@@ -1,6 +1,6 @@
 //! Why a filter is not set.
 use thiserror::Error;
-use xf_base::KeyKind;
+use xf_base::{KeyKind, OutOfMemory};
 
 /// Why a filter is not set on a dimension. A refusal changes nothing.
 #[derive(Clone, Copy, Debug, PartialEq, Eq, Error)]
@@ -12,4 +12,18 @@ pub enum FilterRefusal {
     /// given kind.
     #[error("wrong kind")]
     WrongKind { wanted: KeyKind, given: KeyKind },
+    /// Memory was refused.
+    #[error("out of memory")]
+    OutOfMemory,
+}
+
+impl From<OutOfMemory> for FilterRefusal {
+    ghost use Rattle.std.specs.Prelude.{◌≡◌};
+    ghost use Rattle.xf_engine.specs.declared.filter_refusal.FilterRefusal.TheVariants.{OutOfMemory};
+
+    ghost from_gives = { λ _ refusal. refusal ≡ OutOfMemory };
+
+    fn from(_error: OutOfMemory) -> FilterRefusal {
+        FilterRefusal::OutOfMemory
+    }
 }

@@ -9,7 +9,7 @@ pub enum GroupRefusal {
     /// No live dimension has this id.
     #[error("no dimension {id}")]
     NoDimension { id: u32 },
-    /// So many groups are live already.
+    /// So many groups and wholes are live already.
     #[error("too many groups, of at most {limit}")]
     TooManyGroups { limit: u64 },
     /// Memory was refused.
@@ -24,6 +24,17 @@ impl<T: Drop> From<AllocFailed<T>> for GroupRefusal {
     ghost from_gives = { λ _ refusal. refusal ≡ OutOfMemory };
 
     fn from(_error: AllocFailed<T>) -> GroupRefusal {
+        GroupRefusal::OutOfMemory
+    }
+}
+
+impl From<OutOfMemory> for GroupRefusal {
+    ghost use Rattle.std.specs.Prelude.{◌≡◌};
+    ghost use Rattle.xf_engine.specs.declared.group_refusal.GroupRefusal.TheVariants.{OutOfMemory};
+
+    ghost from_gives = { λ _ refusal. refusal ≡ OutOfMemory };
+
+    fn from(_error: OutOfMemory) -> GroupRefusal {
         GroupRefusal::OutOfMemory
     }
 }

@@ -1,4 +1,4 @@
-//! Ids of dimensions and groups. A new id is the least number that no live thing of its sort has.
+//! Ids of dimensions, groups and wholes. A new id is the least number that no live thing of its sort has.
 use thiserror::Error;
 
 /// The id of a dimension.
@@ -8,6 +8,10 @@ pub struct DimensionId(pub u32);
 /// The id of a group.
 #[derive(Clone, Copy, Debug, PartialEq, Eq)]
 pub struct GroupId(pub u32);
+
+/// The id of a whole.
+#[derive(Clone, Copy, Debug, PartialEq, Eq)]
+pub struct WholeId(pub u32);
 
 /// No live dimension has this id.
 #[derive(Clone, Copy, Debug, PartialEq, Eq, Error)]
@@ -20,5 +24,12 @@ pub struct NoDimension {
 #[derive(Clone, Copy, Debug, PartialEq, Eq, Error)]
 #[error("no group {id}")]
 pub struct NoGroup {
+    pub id: u32,
+}
+
+/// No live whole has this id.
+#[derive(Clone, Copy, Debug, PartialEq, Eq, Error)]
+#[error("no whole {id}")]
+pub struct NoWhole {
     pub id: u32,
 }

@@ -30,6 +30,7 @@ impl From<FilterRefusal> for RemoveRefusal {
             FilterRefusal::WrongKind { wanted, given } => {
                 RemoveRefusal::WrongKind { wanted, given }
             }
+            FilterRefusal::OutOfMemory => RemoveRefusal::OutOfMemory,
         }
     }
 }

@@ -1,7 +1,9 @@
-//! The crossfilter by the ids of its dimensions and groups: what each of them gives, what filters move, and what is removed.
+//! The crossfilter by the ids of its dimensions, groups and wholes: what each of them gives, what filters move, and what is
+//! removed.
 mod dimensions;
 mod predicates;
 mod removals;
+mod values;
 
 use crate::named::a_schema;
 use crate::told::{TEXT, Told, WHOLE, key_of};
@@ -9,13 +11,67 @@ use std::alloc::Global;
 use std::process::Abort;
 use std::sync::ledger::Ledger;
 use std::test::Fail;
-use xf_access::{Accessor, StockAccessor, StockRounding};
+use xf_access::{Accessor, Rounding, StockAccessor, StockRounding};
 use xf_base::{Cell, Limits, OutOfMemory, Row, RowList, Steps, Text, TextList};
-use xf_engine::{Cross, KeyNumber};
-use xf_filter::StockPredicate;
+use xf_engine::{Cross, DimensionId, GroupId, KeyNumber};
+use xf_filter::{Predicate, StockPredicate};
+use xf_group::GroupOrder;
+use xf_reduce::{Reducer, Simple, StockReducer};
 
 /// A crossfilter over the stock.
-type StockCross = Cross<StockAccessor, StockRounding, StockPredicate>;
+type StockCross = Cross<StockAccessor, StockRounding, StockPredicate, StockReducer>;
+
+/// How many records there are.
+const COUNT: StockReducer = StockReducer::One(Simple::Count);
+
+/// Adds a group whose reducer fits.
+pub(crate) fn add_group<A: Accessor, G: Rounding, P: Predicate, R: Reducer, L: Ledger>(
+    rt: &impl Abort,
+    cross: &mut Cross<A, G, P, R>,
+    dimension: DimensionId,
+    rounding: G,
+    reducer: R,
+    steps: &mut Steps<L>,
+) -> Result<GroupId, Fail> {
+    assert!(rt; reducer.fits(cross.schema()));
+    Ok(cross.add_group(dimension, rounding, reducer, steps)?)
+}
+
+/// The entries of a group, each with the number of a field that its reducer has.
+pub(crate) fn numbers_of<A: Accessor, G: Rounding, P: Predicate, R: Reducer, L: Ledger>(
+    rt: &impl Abort,
+    cross: &Cross<A, G, P, R>,
+    id: GroupId,
+    field: u8,
+    steps: &mut Steps<L>,
+) -> Result<Vec<KeyNumber>, Fail> {
+    assert!(rt; field < cross.reducer(id)?.fields());
+    Ok(cross.group_all(id, field, steps)?)
+}
+
+/// Ranks a group by a field that its reducer has.
+pub(crate) fn order_by<A: Accessor, G: Rounding, P: Predicate, R: Reducer>(
+    rt: &impl Abort,
+    cross: &mut Cross<A, G, P, R>,
+    id: GroupId,
+    order: GroupOrder,
+) -> Result<(), Fail> {
+    assert!(rt; order.field() < cross.reducer(id)?.fields());
+    Ok(cross.order_group(id, order)?)
+}
+
+/// The first entries of a group, each with the number of a field that its reducer has.
+pub(crate) fn tops_of<A: Accessor, G: Rounding, P: Predicate, R: Reducer, L: Ledger>(
+    rt: &impl Abort,
+    cross: &Cross<A, G, P, R>,
+    id: GroupId,
+    count: usize,
+    field: u8,
+    steps: &mut Steps<L>,
+) -> Result<Vec<KeyNumber>, Fail> {
+    assert!(rt; field < cross.reducer(id)?.fields());
+    Ok(cross.group_top(id, count, field, steps)?)
+}
 
 /// Compares entries with those that a table has.
 pub(crate) fn see_entries(
@@ -100,7 +156,7 @@ fn flights<L: Ledger>(
     for accessor in &DIMENSIONS {
         assert!(rt; accessor.fits(cross.schema()));
         let dimension = cross.add_dimension(*accessor, steps)?;
-        cross.add_group(dimension, StockRounding::Same, steps)?;
+        add_group(rt, &mut cross, dimension, StockRounding::Same, COUNT, steps)?;
     }
     cross.add_records(rows_of(alloc, &FLIGHTS)?, steps)?;
     Ok(cross)

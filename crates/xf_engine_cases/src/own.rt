@@ -1,7 +1,7 @@
-//! A crossfilter over an accessor and a rounding of one's own.
+//! A crossfilter over an accessor, a rounding and a reducer of one's own.
 ghost use Rattle.std.specs.Prelude.{◌≡◌, ◌<◌};
 
-use crate::engine::{RECORDS, rows_of, see_entries};
+use crate::engine::{RECORDS, add_group, numbers_of, rows_of, see_entries};
 use crate::named::{a_schema, filter_of};
 use crate::told::{Told, WHOLE};
 use std::alloc::Global;
@@ -15,6 +15,7 @@ use xf_base::{
 };
 use xf_engine::Cross;
 use xf_filter::StockPredicate;
+use xf_reduce::Reducer;
 
 /// How many bytes the text of a column has, up to 4,096.
 #[derive(Clone, Copy)]
@@ -84,14 +85,104 @@ impl Rounding for Halves {
     }
 }
 
-/// The lengths 2, 1, 2 and 1, and their halves, through a crossfilter.
+/// How many rows have an even number in the second column: one field.
+#[derive(Clone, Copy)]
+pub(crate) struct Evens;
+
+impl Evens {
+    ghost use Rattle.xf_engine_cases.specs.Evens.{even_second};
+
+    /// 1 for a row that counts, and 0 for another.
+    fn count_of(row: &Row) -> u64
+        ensures { result ≡ even_second row.now }
+    {
+        match row.at(1) {
+            Some(Cell::Num(number)) => u64::from(number.rem_euclid(2) == 0),
+            _ => 0,
+        }
+    }
+}
+
+impl Reducer for Evens {
+    ghost use Rattle.std.specs.Prelude.{None, pos, ⊤};
+    ghost use Rattle.xf_reduce.specs.Number.{fits_at};
+    ghost use Rattle.xf_engine_cases.specs.Evens.{evens, evens_few, evens_less, evens_swap, evens_take_back, evens_within};
+
+    type Value = u64;
+
+    type Meaning = u64;
+
+    ghost meaning_of = { λ value. value };
+
+    ghost folding = { λ _. evens };
+
+    ghost undo = { λ _. evens_less };
+
+    ghost rank_of = { λ _ meaning field. pos meaning };
+
+    ghost field_count = { λ _. 1 };
+
+    ghost fits_to = { λ _. fits_at 1 };
+
+    ghost IsReady = { λ _ value row. ⊤ };
+
+    ghost calls = { None };
+
+    ghost few_fields = { λ _. evens_few };
+
+    ghost swaps = { λ _. evens_swap };
+
+    ghost takes_back = { λ _. evens_take_back };
+
+    ghost ranks_within = { λ _. evens_within };
+
+    fn copy(&self, _alloc: Global) -> Result<Evens, OutOfMemory> {
+        Ok(Evens)
+    }
+
+    fn fits(&self, schema: &Schema) -> bool {
+        match schema.as_slice().get(1) {
+            Some(column) => matches!(column.kind, ColumnKind::Int | ColumnKind::Fixed(_)),
+            None => false,
+        }
+    }
+
+    fn fields(&self) -> u8 {
+        1
+    }
+
+    fn initial(&self, _alloc: Global) -> Result<u64, OutOfMemory> {
+        Ok(0)
+    }
+
+    fn prepare(&self, _value: &mut u64, _row: &Row) -> Result<(), OutOfMemory> {
+        Ok(())
+    }
+
+    fn add<L: Ledger>(&self, value: &mut u64, row: &Row, steps: &mut Steps<L>) {
+        steps.tick();
+        *value += Evens::count_of(row);
+    }
+
+    fn remove<L: Ledger>(&self, value: &mut u64, row: &Row, steps: &mut Steps<L>) {
+        steps.tick();
+        *value -= Evens::count_of(row);
+    }
+
+    fn rank(&self, value: &u64, _field: u8) -> i128 {
+        i128::from(*value)
+    }
+}
+
+/// The lengths 2, 1, 2 and 1 of rows with the numbers -5, 0, 7 and 7, through a crossfilter: the halves of the lengths, each
+/// with how many of its numbers are even.
 fn see_lengths<L: Ledger>(rt: &impl Abort, alloc: Global, blank: Blank) -> Result<(), Fail>
     requires name { blank.name ≡ L.name }
     requires parts { blank.parts ≡ L.parts }
     requires some { 0 < blank.parts }
 {
     let mut steps = Steps::<L>::new(blank);
-    let mut cross = Cross::<TextLength, Halves, StockPredicate>::new(
+    let mut cross = Cross::<TextLength, Halves, StockPredicate, Evens>::new(
         alloc,
         a_schema(alloc)?,
         Limits::standard(),
@@ -100,15 +191,19 @@ fn see_lengths<L: Ledger>(rt: &impl Abort, alloc: Global, blank: Blank) -> Resul
     let length = TextLength { column: 0 };
     assert!(rt; length.fits(cross.schema()));
     let dimension = cross.add_dimension(length, &mut steps)?;
-    let group = cross.add_group(dimension, Halves, &mut steps)?;
+    let group = add_group(rt, &mut cross, dimension, Halves, Evens, &mut steps)?;
+    assert!(rt; Evens.fits(cross.schema()));
+    let whole = cross.add_whole(Evens, &mut steps)?;
+    assert_eq!(rt; *cross.whole(whole)?, 1);
     let range = filter_of(alloc, &WHOLE, "range 2 3")?;
     assert!(rt; cross.set_filter(dimension, range, &mut steps) == Ok(2));
-    let found = cross.group_all(group, &mut steps)?;
+    assert_eq!(rt; *cross.whole(whole)?, 0);
+    let found = numbers_of(rt, &cross, group, 0, &mut steps)?;
     see_entries(
         rt,
         alloc,
         found.as_slice(),
-        &[(Told::Num(0), 2), (Told::Num(1), 2)],
+        &[(Told::Num(0), 1), (Told::Num(1), 0)],
     )?;
     let found = cross.bottom(dimension, 1, 1, &mut steps)?;
     assert_eq!(rt; found.as_slice(), [2].as_slice());

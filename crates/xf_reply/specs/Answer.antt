@@ -1,5 +1,5 @@
 -- The lines of an answer.
-use Rattle.std.specs.Prelude.{ℕ, ℤ, List, [], ◌∷◌, ◌++◌, codes, decimal, flat_map}
+use Rattle.std.specs.Prelude.{ℕ, List, [], ◌∷◌, ◌++◌, codes, decimal, flat_map}
 use Rattle.std.specs.List.{zip}
 use Rattle.xf_base.specs.Fixed.{fixed_text}
 use Rattle.xf_base.specs.Form.{key_text, number_text}
@@ -13,6 +13,7 @@ use Rattle.xf_base.specs.declared.form.AtomForm.{AtomForm}
 use Rattle.xf_base.specs.declared.form.AtomForm.TheVariants.{Fixed, Date, Text}
 use Rattle.xf_base.specs.declared.form.KeyForm.{KeyForm}
 use Rattle.xf_base.specs.declared.key.Key.{Key}
+use Rattle.xf_reply.specs.declared.answer.Field.{Field}
 
 -- how the numbers of a column are written
 abbrev pub form_of_kind : ColumnKind → AtomForm
@@ -51,9 +52,16 @@ cell_words at = 32 ∷ word_text (cell_text at.0.kind at.1)
 abbrev pub record_line : List Column → ℕ → List Cell → List ℕ
 record_line columns place cells = codes "  record " ++ decimal place ++ flat_map cell_words (zip columns cells) ++ 10 ∷ []
 
--- an entry of a group: its key and its number
-abbrev pub entry_line : KeyForm → Key → ℤ → List ℕ
-entry_line form key number = codes "  " ++ word_text (key_text form key) ++ 32 ∷ fixed_text number 0 ++ 10 ∷ []
+-- the fields of an entry or of a whole, each with its decimals behind a blank
+abbrev pub field_word : Field → List ℕ
+field_word field = 32 ∷ fixed_text field.number field.decimals
+
+abbrev pub field_words : List Field → List ℕ
+field_words fields = flat_map field_word fields
+
+-- an entry of a group: its key and all its fields
+abbrev pub entry_line : KeyForm → Key → List Field → List ℕ
+entry_line form key fields = codes "  " ++ word_text (key_text form key) ++ field_words fields ++ 10 ∷ []
 
 -- no entry
 abbrev pub none_line : List ℕ

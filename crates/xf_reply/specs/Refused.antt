@@ -64,7 +64,6 @@ refusal_number (refusal.TooMuchText have more limit) = 23
 refusal_number (refusal.TooManyEntries have more limit) = 24
 refusal_number (refusal.TooManyDimensions limit) = 25
 refusal_number (refusal.TooManyGroups limit) = 26
-refusal_number refusal.NotBuilt = 99
 
 -- its words
 abbrev pub refusal_words : Refusal → List ℕ
@@ -94,4 +93,3 @@ refusal_words (refusal.TooMuchText have more limit) = codes "too much text " ++ 
 refusal_words (refusal.TooManyEntries have more limit) = codes "too many entries " ++ counts_text have more limit
 refusal_words (refusal.TooManyDimensions limit) = codes "too many dimensions " ++ decimal limit
 refusal_words (refusal.TooManyGroups limit) = codes "too many groups " ++ decimal limit
-refusal_words refusal.NotBuilt = codes "not built"

@@ -5,7 +5,7 @@ ghost use Rattle.xf_base.specs.Fixed.{fixed_text};
 ghost use Rattle.xf_base.specs.Form.{key_text, number_text};
 ghost use Rattle.xf_base.specs.Schema.{IsColumn, IsSoundKind};
 ghost use Rattle.xf_base.specs.Word.{word_text};
-ghost use Rattle.xf_reply.specs.Answer.{behind, cell_text, cell_words, entry_line, events_line, form_of_kind, joined, none_line, number_line, record_line, separator_of};
+ghost use Rattle.xf_reply.specs.Answer.{behind, cell_text, cell_words, entry_line, events_line, field_word, field_words, form_of_kind, joined, none_line, number_line, record_line, separator_of};
 ghost use Rattle.xf_reply.specs.Put.{Puts, PutsIf};
 
 use crate::put::{put_count, put_counted, put_name, put_text};
@@ -157,29 +157,48 @@ fn put_number(out: &mut Vec<u8>, form: AtomForm, number: i64) -> Result<(), OutO
     }
 }
 
-/// Appends a whole number.
-fn put_whole(out: &mut Vec<u8>, number: i128) -> Result<(), OutOfMemory>
-    ensures { OnOk result (Puts out.old.items out.new.items (fixed_text number 0)) }
-{
-    put_fixed(out, number, 0)
+/// A field of an entry or of a whole: its number, in units of the last of its decimals.
+#[derive(Clone, Copy, Debug, PartialEq, Eq)]
+pub struct Field {
+    pub number: i128,
+    pub decimals: u8,
 }
 
-/// Appends the line of an entry of a group: its key as a word, as the form says, and its number. `scratch` is room for a
+/// Appends fields, each behind a blank. Where memory is refused some may stand in `out`.
+pub fn put_fields(out: &mut Vec<u8>, fields: &[Field]) -> Result<(), OutOfMemory>
+    ensures ok { OnOk result (out.new.items ≡ out.old.items ++ field_words fields.now) }
+    ensures utf8 { OnOk result (IsUtf8 (field_words fields.now)) }
+{
+    for field in fields {
+        put_field(out, *field)?;
+    }
+    Ok(())
+}
+
+/// Appends a blank and a field.
+fn put_field(out: &mut Vec<u8>, field: Field) -> Result<(), OutOfMemory>
+    ensures { OnOk result (Puts out.old.items out.new.items (field_word field)) }
+{
+    put_text(out, " ")?;
+    put_fixed(out, field.number, field.decimals)?;
+    Ok(())
+}
+
+/// Appends the line of an entry of a group: its key as a word, as the form says, and its fields. `scratch` is room for a
 /// key. Where memory is refused a part of the line may stand in `out`.
 pub fn put_entry(
     out: &mut Vec<u8>,
     scratch: &mut Vec<u8>,
     form: &KeyForm,
     key: &Key,
-    number: i128,
+    fields: &[Field],
 ) -> Result<(), OutOfMemory>
-    ensures ok { OnOk result (out.new.items ≡ out.old.items ++ entry_line form.now key.now number) }
-    ensures utf8 { OnOk result (IsUtf8 (entry_line form.now key.now number)) }
+    ensures ok { OnOk result (out.new.items ≡ out.old.items ++ entry_line form.now key.now fields.now) }
+    ensures utf8 { OnOk result (IsUtf8 (entry_line form.now key.now fields.now)) }
 {
     put_text(out, "  ")?;
     put_key_word(out, scratch, form, key)?;
-    put_text(out, " ")?;
-    put_whole(out, number)?;
+    put_fields(out, fields)?;
     put_text(out, "\n")?;
     Ok(())
 }

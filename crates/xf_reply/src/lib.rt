@@ -9,6 +9,6 @@ mod put;
 mod refusal;
 mod reply;
 
-pub use answer::{put_entry, put_events, put_none, put_number_line, put_record};
+pub use answer::{Field, put_entry, put_events, put_fields, put_none, put_number_line, put_record};
 pub use refusal::{Refusal, put_refusal};
 pub use reply::{Bytes, Change, Reply, put_step};

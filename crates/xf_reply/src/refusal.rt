@@ -120,8 +120,6 @@ pub enum Refusal {
     TooManyGroups {
         limit: u64,
     },
-    /// Number 99: the command is known, and not built yet.
-    NotBuilt,
 }
 
 impl Refusal {
@@ -156,7 +154,6 @@ impl Refusal {
             Refusal::TooManyEntries { .. } => 24,
             Refusal::TooManyDimensions { .. } => 25,
             Refusal::TooManyGroups { .. } => 26,
-            Refusal::NotBuilt => 99,
         }
     }
 }
@@ -211,7 +208,6 @@ pub(crate) fn put_words(out: &mut Vec<u8>, refusal: &Refusal) -> Result<(), OutO
         }
         Refusal::TooManyDimensions { limit } => put_counted(out, "too many dimensions ", *limit),
         Refusal::TooManyGroups { limit } => put_counted(out, "too many groups ", *limit),
-        Refusal::NotBuilt => put_text(out, "not built"),
     }
 }
 

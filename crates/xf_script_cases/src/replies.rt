@@ -5,8 +5,8 @@ use std::test::Fail;
 use xf_base::{Atom, AtomForm, Cell, Column, ColumnKind, Key, KeyForm, Row, Text, TextList};
 use xf_load::CellRefusal;
 use xf_reply::{
-    Bytes, Change, Refusal, Reply, put_entry, put_events, put_none, put_number_line, put_record,
-    put_refusal, put_step,
+    Bytes, Change, Field, Refusal, Reply, put_entry, put_events, put_fields, put_none,
+    put_number_line, put_record, put_refusal, put_step,
 };
 
 fn see(rt: &impl Abort, found: &[u8], want: &str) -> Result<(), Fail> {
@@ -117,22 +117,41 @@ fn accepted_steps(rt: HostRuntime) -> Result<(), Fail> {
     )
 }
 
+fn field(number: i128, decimals: u8) -> Field {
+    Field { number, decimals }
+}
+
+#[test]
+fn fields(rt: HostRuntime) -> Result<(), Fail> {
+    let mut out = Vec::new(rt.alloc());
+    put_fields(&mut out, &[])?;
+    put_fields(&mut out, &[field(-5, 2), field(0, 1), field(7, 0)])?;
+    put_fields(&mut out, &[field(i128::MAX, 2), field(i128::MIN, 0)])?;
+    see(
+        &rt,
+        out.as_slice(),
+        " -0.05 0.0 7 1701411834604692317316873037158841057.27 -170141183460469231731687303715884105728",
+    )
+}
+
 #[test]
 fn entries(rt: HostRuntime) -> Result<(), Fail> {
     let mut out = Vec::new(rt.alloc());
     let mut scratch = Vec::new(rt.alloc());
     let fixed = KeyForm::One(AtomForm::Fixed(2));
-    put_entry(&mut out, &mut scratch, &fixed, &Key::Num(-5), 3)?;
+    let one = [field(3, 0)];
+    put_entry(&mut out, &mut scratch, &fixed, &Key::Num(-5), &one)?;
     let date = KeyForm::One(AtomForm::Date);
-    put_entry(&mut out, &mut scratch, &date, &Key::Num(1), -3)?;
+    let two = [field(-1205, 2), field(4, 0)];
+    put_entry(&mut out, &mut scratch, &date, &Key::Num(1), &two)?;
     let text = Text::of(rt.alloc(), "a b")?;
     let both = KeyForm::Pair(AtomForm::Text, AtomForm::Fixed(0));
     let pair = Key::Pair(Atom::Text(text), Atom::Num(7));
-    put_entry(&mut out, &mut scratch, &both, &pair, 0)?;
+    put_entry(&mut out, &mut scratch, &both, &pair, &[field(0, 0)])?;
     see(
         &rt,
         out.as_slice(),
-        "  -0.05 3\n  1970-01-02 -3\n  \"a b|7\" 0\n",
+        "  -0.05 3\n  1970-01-02 -12.05 4\n  \"a b|7\" 0\n",
     )
 }
 

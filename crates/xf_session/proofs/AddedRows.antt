@@ -1,12 +1,12 @@
 -- Why rows are not added, as a session tells it.
 use Rattle.std.proofs.Common.{◌≡◌, ◌∙◌, ◌⊎◌, inl, inr, ◌+◌, ℕ, nat_lt, Bool, true, false, cond, List, [], ◌∷◌, length, Option, Some, None, Result, Ok, Err, ap, refl, subst, sym}
 use Rattle.std.specs.List.{AllByRecursion, enumerate_from}
-use Rattle.std.specs.Prelude.{⊤}
 use Rattle.xf_access.specs.Stock.{keys_of_row}
 use Rattle.xf_base.specs.Schema.{IsRowOf}
 use Rattle.xf_base.specs.declared.cell.Cell.{Cell}
 use Rattle.xf_engine.specs.Changes as change
 use Rattle.xf_engine.specs.declared.ids.GroupId.{GroupId}
+use Rattle.xf_engine.specs.declared.ids.WholeId.{WholeId}
 use Rattle.xf_engine.specs.Refusals.{add_refusal_after, add_refusal_of}
 use Rattle.xf_engine.specs.State.{entry_count}
 use Rattle.xf_engine.specs.declared.add_refusal.AddRefusal.{AddRefusal}
@@ -76,7 +76,7 @@ never-mismatched cross rows why place column of (inr told) is =
     subst IsToldCause (told ∙ ap (λ (why : AddRefusal). Some why) is) (first-told (session_of cross [] [] []) rows of).1
 
 -- what is told where rows were added
-pub does-added : {E : Type 0} (cross new : StockState) (dimensions : List (Name × Naming)) (groups : List (Name × GroupId)) (wholes : List (Name × ⊤)) (rows : List (List Cell)) (count : ℕ) (result : Result Reply E)
+pub does-added : {E : Type 0} (cross new : StockState) (dimensions : List (Name × Naming)) (groups : List (Name × GroupId)) (wholes : List (Name × WholeId)) (rows : List (List Cell)) (count : ℕ) (result : Result Reply E)
     → AllByRecursion (IsRowOf cross.columns) rows → new ≡ change.with_rows cross rows → add_refusal_of keys_of_row cross rows ≡ None → count ≡ length rows → result ≡ Ok (Changed (Added count))
     → Does (rows_outcome (session_of cross dimensions groups wholes) rows) (session_of cross dimensions groups wholes) (session_of new dimensions groups wholes) result
 does-added {E = E} cross new dimensions groups wholes rows count result of is none counted answered =
@@ -89,7 +89,7 @@ does-added {E = E} cross new dimensions groups wholes rows count result of is no
     (subst (λ (result : Result Reply E). Does (accepted (with_rows s rows) (added (length rows))) s now result) (sym answered) told)
 
 -- and where they were refused
-pub does-refused : {E : Type 0} (cross new : StockState) (dimensions : List (Name × Naming)) (groups : List (Name × GroupId)) (wholes : List (Name × ⊤)) (rows : List (List Cell)) (why known : AddRefusal) (cause : Refusal) (result : Result Reply E)
+pub does-refused : {E : Type 0} (cross new : StockState) (dimensions : List (Name × Naming)) (groups : List (Name × GroupId)) (wholes : List (Name × WholeId)) (rows : List (List Cell)) (why known : AddRefusal) (cause : Refusal) (result : Result Reply E)
     → AllByRecursion (IsRowOf cross.columns) rows → new ≡ cross → (why ≡ add.OutOfMemory) ⊎ (add_refusal_of keys_of_row cross rows ≡ Some why) → why ≡ known → told_as (Some known) ≡ Some cause → result ≡ Ok (Refused cause)
     → Does (rows_outcome (session_of cross dimensions groups wholes) rows) (session_of cross dimensions groups wholes) (session_of new dimensions groups wholes) result
 does-refused cross new dimensions groups wholes rows why known cause result of is (inl memory) known_is tells answered =
@@ -104,7 +104,7 @@ does-refused {E = E} cross new dimensions groups wholes rows why known cause res
     (subst (λ (result : Result Reply E). Does (refused cause) s now result) (sym answered) (refl, same))
 
 -- and where memory was refused
-pub does-nothing : {E : Type 0} (outcome : Outcome) (cross new : StockState) (dimensions : List (Name × Naming)) (groups : List (Name × GroupId)) (wholes : List (Name × ⊤)) (error : E) (result : Result Reply E)
+pub does-nothing : {E : Type 0} (outcome : Outcome) (cross new : StockState) (dimensions : List (Name × Naming)) (groups : List (Name × GroupId)) (wholes : List (Name × WholeId)) (error : E) (result : Result Reply E)
     → new ≡ cross → result ≡ Err error → Does outcome (session_of cross dimensions groups wholes) (session_of new dimensions groups wholes) result
 does-nothing {E = E} outcome cross new dimensions groups wholes error result is answered =
     subst (λ (result : Result Reply E). Does outcome (session_of cross dimensions groups wholes) (session_of new dimensions groups wholes) result) (sym answered)

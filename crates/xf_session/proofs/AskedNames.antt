@@ -1,8 +1,8 @@
 -- The answers about the dimension of a name that is there, and about one that is not.
-use Rattle.std.proofs.Common.{◌≡◌, ◌∙◌, ℕ, List, [], ◌∷◌, ◌++◌, map, Option, Some, None, is_none, option_map, unwrap_or, Result, ap, refl, subst, sym}
+use Rattle.std.proofs.Common.{◌≡◌, ◌∙◌, ℕ, List, [], ◌∷◌, map, Option, Some, None, is_none, option_map, unwrap_or, Result, ap, subst, sym}
 use Rattle.xf_engine.specs.declared.ids.DimensionId.{DimensionId}
 use Rattle.xf_engine.specs.declared.ids.GroupId.{GroupId}
-use Rattle.xf_model.specs.Replay.{accepted, refused}
+use Rattle.xf_model.specs.Replay.{accepted}
 use Rattle.xf_reply.specs.declared.refusal.Refusal.{Refusal}
 use Rattle.xf_reply.specs.declared.refusal.Refusal.TheVariants.{NoDimension, NoGroup}
 use Rattle.xf_reply.specs.declared.reply.Reply.{Reply}

@@ -135,11 +135,13 @@ removal_kind : (own : Option FilterRefusal) (wanted given : KeyKind) → option_
 removal_kind None wanted given same = absurd cc
 removal_kind (Some (filter.NoDimension id)) wanted given same = absurd cc
 removal_kind (Some (filter.WrongKind mine other)) wanted given same = cc
+removal_kind (Some filter.OutOfMemory) wanted given same = absurd cc
 
 removal_none : (own : Option FilterRefusal) (id : ℕ) → option_map engine.as_remove_refusal own ≡ Some (remove.NoDimension id) → own ≡ Some (filter.NoDimension id)
 removal_none None id same = absurd cc
 removal_none (Some (filter.NoDimension mine)) id same = cc
 removal_none (Some (filter.WrongKind mine other)) id same = absurd cc
+removal_none (Some filter.OutOfMemory) id same = absurd cc
 
 -- the dimension is there
 pub removal_there : (cross : StockState) (naming : Naming) (given : StockFilter) (id : ℕ) → IsNamed cross.dimensions naming → engine.remove_refusal_of kind_of stock_keys cross naming.id.0 given ≡ Some (remove.NoDimension id) → ⊥

@@ -17,3 +17,5 @@ pub mod Sifted
 pub mod StartStates
 pub mod Toggled
 pub mod WithinRows
+pub mod LastNames
+pub mod EntryFields

@@ -1,5 +1,5 @@
 -- Names as they are kept, the entries of a map with texts as keys, and as they are seen.
-use Rattle.std.proofs.Common.{◌≡◌, ℕ, zero, suc, ◌≤◌, Bool, true, false, not, ◌||◌, cond, List, [], ◌∷◌, ◌++◌, length, map, Option, Some, None, filter, remove, refl, sym, ap, ◌∙◌, arith}
+use Rattle.std.proofs.Common.{◌≡◌, ℕ, zero, suc, Bool, true, false, not, ◌||◌, cond, List, [], ◌∷◌, ◌++◌, map, Option, Some, None, filter, remove, refl, sym, ap, ◌∙◌}
 use Rattle.std.proofs.lemmas.List.{map-append}
 use Rattle.std.proofs.lemmas.Slice.Eq.{bytes_eq-Decides}
 use Rattle.std.specs.List.{AllByRecursion, IsDistinct}
@@ -135,12 +135,3 @@ distinct-names-push [] new value distinct absent = (refl, tt)
 distinct-names-push (entry ∷ names) new value distinct absent =
     let parts = either-not (bytes_eq new entry.0) (is_among (names_in names) new) absent in
     (among-push entry.0 names new value distinct.0 (other-way new entry.0 parts.0), distinct-names-push names new value distinct.1 parts.1)
-
--- of some there are no more than of all
-pub fewer-names : {A : Type 0} (p : A → Bool) (xs : List A) → length (filter p xs) ≤ length xs
-fewer-names p [] = omega arith
-fewer-names p (x ∷ xs) =
-    elim (p x) as (λ b. length (cond b (x ∷ filter p xs) (filter p xs)) ≤ suc (length xs)) [
-      | true ↦ omega (arith, fewer-names p xs)
-      | false ↦ omega (arith, fewer-names p xs)
-    ]

@@ -34,13 +34,13 @@ pub found-none : {X : Type 0} (test : X → Bool) (xs : List X) (count : ℕ) �
 found-none test xs count none all = find-unplaced test xs (position-none test xs (λ d earlier e. none earlier d (omega (arith, e, all))))
 
 -- what a group's dimension has is told of it, and nothing where there is no such group
-pub of-group : {G X : Type 0} (has : ℕ → Option X) (id : ℕ) (dimension : DimensionId) (found : Option (LiveGroup G))
+pub of-group : {G R X : Type 0} (has : ℕ → Option X) (id : ℕ) (dimension : DimensionId) (found : Option (LiveGroup G R))
     → Ok dimension ≡ unless_none (no_group id) (option_map dimension_id found) → option_and_then (λ group. has group.dimension) found ≡ has dimension.0
 of-group has id dimension None told = absurd cc
 of-group has id dimension (Some group) told =
     let same : dimension ≡ dimension_id group = cc in ap (λ (d : DimensionId). has d.0) (sym same)
 
-pub of-no-group : {G X : Type 0} (has : ℕ → Option X) (id : ℕ) (cause : NoGroup) (found : Option (LiveGroup G))
+pub of-no-group : {G R X : Type 0} (has : ℕ → Option X) (id : ℕ) (cause : NoGroup) (found : Option (LiveGroup G R))
     → Err cause ≡ unless_none (no_group id) (option_map dimension_id found) → option_and_then (λ group. has group.dimension) found ≡ None
 of-no-group has id cause None told = refl
 of-no-group has id cause (Some group) told = absurd cc

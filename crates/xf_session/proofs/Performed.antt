@@ -1,13 +1,12 @@
 -- What lines and commands do, by what the calls for them did.
-use Rattle.std.proofs.Common.{◌≡◌, ◌⊎◌, inl, inr, ◌∙◌, ℕ, ◌+◌, ◌<◌, ◌^◌, nat_lt, Bool, true, false, cond, decimal, List, Option, Some, None, Result, Ok, Err, IfOk, ap, refl, subst, sym}
+use Rattle.std.proofs.Common.{◌≡◌, inl, inr, ◌∙◌, ℕ, ◌+◌, ◌<◌, ◌^◌, nat_lt, Bool, true, false, cond, decimal, List, Option, Some, None, Result, Ok, Err, IfOk, ap, refl, subst, sym}
 use Rattle.xf_base.specs.declared.out_of_memory.OutOfMemory.{OutOfMemory}
-use Rattle.xf_model.specs.Replay.{Outcome, accepted, refused, skipped, state_after}
+use Rattle.xf_model.specs.Replay.{state_after}
 use Rattle.xf_outside.specs.Account.{DepotAccount, Files}
 use Rattle.xf_outside.specs.Count.{Rose}
 use Rattle.xf_reply.specs.Step.{HasText}
 use Rattle.xf_reply.specs.declared.refusal.Refusal.{Refusal}
 use Rattle.xf_reply.specs.declared.reply.Reply.{Reply}
-use Rattle.xf_reply.specs.declared.reply.Reply.TheVariants as reply
 use Rattle.xf_filter.proofs.CountWords.{count-small}
 use Rattle.xf_filter.specs.Words.{count_of, if_passing}
 use Rattle.xf_script.proofs.Said.{Said, SaidRounding, said_of}
@@ -22,15 +21,14 @@ use Rattle.xf_script.specs.declared.command.CommandForm.TheVariants as form
 use Rattle.xf_script.specs.declared.line_refusal.LineRefusal.{LineRefusal}
 use Rattle.xf_script.specs.declared.line_refusal.LineRefusal.TheVariants as line
 use Rattle.xf_session.proofs.ChangeTexts.{IsChange, change_text}
-use Rattle.xf_session.specs.Asked.{FaultsAfter, IsCounted, IsLoadReply, IsLoaded, Performs, TellsAbsent, TellsTooLong, done_of}
-use Rattle.xf_session.specs.Command.{Loads, Tells, TellsFor, cause_of_line, command, outcome_of, outcome_read, unless_refused}
+use Rattle.xf_session.specs.Asked.{IsLoadReply, IsLoaded, Performs, TellsAbsent, TellsTooLong, done_of}
+use Rattle.xf_session.specs.Command.{Tells, TellsFor, command, outcome_of, outcome_read, unless_refused}
 use Rattle.xf_session.specs.Does.{Does, outcome_within}
 use Rattle.xf_session.specs.Does as does
 use Rattle.xf_session.specs.Outcome.{Answer, reply_of}
 use Rattle.xf_session.specs.State.{Name, Session}
 use Rattle.xf_session.specs.declared.apply.Performed.{Performed}
 use Rattle.xf_session.specs.declared.apply.Performed.TheVariants as performed
-use Rattle.xf_session.specs.declared.apply.SessionFault.{SessionFault}
 
 -- ---- a command that asks for no file
 
@@ -116,6 +114,9 @@ unless_same s (Some cause) answer = refl
 
 pub asked_value : (s : Session) (name : Name) (key : List ℕ) → state_after s (outcome_within s (form.Value name key)) ≡ s
 asked_value s name key = unless_same s _ _
+
+pub asked_tops : (s : Session) (name : Name) (count : ℕ) → state_after s (outcome_within s (form.GroupTop name count)) ≡ s
+asked_tops s name count = unless_same s _ _
 
 pub asked_records : (s : Session) (names : List Name) → state_after s (outcome_within s (form.Records names)) ≡ s
 asked_records s names = unless_same s _ _

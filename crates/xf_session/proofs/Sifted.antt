@@ -4,9 +4,10 @@ use Rattle.std.specs.List.{filter, find, list_any}
 use Rattle.xf_access.specs.declared.stock_rounding.StockRounding.{StockRounding}
 use Rattle.xf_engine.proofs.FreeId.{taken-held}
 use Rattle.xf_engine.specs.Refusals.{dimension_id, no_group, unless_none}
-use Rattle.xf_engine.specs.declared.ids.GroupId.{GroupId}
-use Rattle.xf_session.specs.State.{Name}
 use Rattle.xf_engine.specs.State.{LiveGroup, group_has_id, group_ids, is_taken}
+use Rattle.xf_engine.specs.declared.ids.GroupId.{GroupId}
+use Rattle.xf_reduce.specs.declared.stock_reducer.StockReducer.{StockReducer}
+use Rattle.xf_session.specs.State.{Name}
 
 -- those before a place pass
 abbrev pub PassTo : {X : Type 0} → (X → Bool) → List X → ℕ → Type 0
@@ -53,15 +54,15 @@ found-any : {X : Type 0} (test : X → Bool) (xs : List X) → is_some (find tes
 found-any test [] = refl
 found-any test (x ∷ xs) = elim (test x) as (λ b. is_some (cond b (Some x) (find test xs)) ≡ (b || list_any test xs)) [ true ↦ refl | false ↦ found-any test xs ]
 
-told-ok : (id : ℕ) (found : Option (LiveGroup StockRounding)) → is_ok (unless_none (no_group id) (option_map dimension_id found)) ≡ is_some found
+told-ok : (id : ℕ) (found : Option (LiveGroup StockRounding StockReducer)) → is_ok (unless_none (no_group id) (option_map dimension_id found)) ≡ is_some found
 told-ok id None = refl
 told-ok id (Some group) = refl
 
-pub live-told : (groups : List (LiveGroup StockRounding)) (id : ℕ) → is_ok (unless_none (no_group id) (option_map dimension_id (find (group_has_id id) groups))) ≡ is_taken (group_ids groups) id
+pub live-told : (groups : List (LiveGroup StockRounding StockReducer)) (id : ℕ) → is_ok (unless_none (no_group id) (option_map dimension_id (find (group_has_id id) groups))) ≡ is_taken (group_ids groups) id
 live-told groups id = told-ok id (find (group_has_id id) groups) ∙ found-any (group_has_id id) groups ∙ sym (taken-held (λ group. group.id) id groups)
 
 -- what is told of the entry at a place
-pub told-live : (at : Option (Name × GroupId)) (groups : List (LiveGroup StockRounding)) (entry : Name × GroupId) (id : ℕ) (told : Bool)
+pub told-live : (at : Option (Name × GroupId)) (groups : List (LiveGroup StockRounding StockReducer)) (entry : Name × GroupId) (id : ℕ) (told : Bool)
     → at ≡ Some entry → Some id ≡ option_map (λ (e : Name × GroupId). e.1.0) at → told ≡ is_ok (unless_none (no_group id) (option_map dimension_id (find (group_has_id id) groups))) → told ≡ is_taken (group_ids groups) entry.1.0
 told-live at groups entry id told stands same is =
     let own : Some id ≡ Some entry.1.0 = same ∙ ap (option_map (λ (e : Name × GroupId). e.1.0)) stands in

@@ -28,14 +28,16 @@ use Rattle.xf_base.specs.declared.column.ColumnKind.TheVariants as kind
 use Rattle.xf_base.specs.declared.form.KeyForm.{KeyForm}
 use Rattle.xf_base.specs.declared.form.KeyForm.TheVariants.{One}
 use Rattle.xf_engine.specs.Refusals.{add_refusal_of, table_of}
-use Rattle.xf_engine.specs.State.{LiveDimension, dimension_ids, entries_by, entry_count}
-use Rattle.xf_filter.specs.declared.stock_predicate.StockPredicate.{StockPredicate}
+use Rattle.xf_engine.specs.State.{dimension_ids, entries_by, entry_count}
 use Rattle.xf_model.specs.Replay.{accepted, state_after}
+use Rattle.xf_reduce.specs.declared.simple.Simple.TheVariants as part
+use Rattle.xf_reduce.specs.declared.stock_reducer.StockReducer.TheVariants as reduced
 use Rattle.xf_script.specs.declared.command.CommandForm.TheVariants as form
 use Rattle.xf_script.specs.declared.words.AccessorWords.TheVariants.{Column as ColumnWords}
 use Rattle.xf_script.specs.declared.words.ReducerWords.TheVariants.{One as OneReducer}
 use Rattle.xf_script.specs.declared.words.RoundingWords.TheVariants as rounding
 use Rattle.xf_script.specs.declared.words.SimpleWords.TheVariants.{Count}
+use Rattle.xf_session.proofs.Named.{StockDimension}
 use Rattle.xf_session.specs.Columns.{accessor_of, column_at, form_named, is_plain, kind_named}
 use Rattle.xf_session.specs.Command.{free_id, plain, with_dimension, with_group}
 use Rattle.xf_session.specs.Does.{outcome_within}
@@ -45,9 +47,6 @@ use Rattle.xf_sheet.specs.SheetParts.{AreDistinctNames, IsInt, column_names}
 use Rattle.xf_table.proofs.Refusals.{no_mismatch-from_rows}
 use Rattle.xf_table.specs.Append.{mismatch_of, refusal_of}
 use Rattle.xf_table.specs.Table.{text_of_rows}
-
-abbrev StockDimension : Type 0
-StockDimension = LiveDimension StockAccessor StockPredicate
 
 -- ---- what it has after some columns
 
@@ -206,7 +205,7 @@ dimension-taken columns limits place d s may is within =
 group-taken : (columns : List Column) (limits : Bounds) (place : ℕ) (d : Column) (s : Session) → MayBegin columns limits → StandsAt columns limits (take place columns) s → place < length columns → (accessor : StockAccessor)
     → let name = (get_or columns place d).name in
     let mid = with_dimension s name accessor in
-    outcome_within mid (form.Group name name rounding.Same (OneReducer Count)) ≡ accepted (with_group mid name name Same) plain
+    outcome_within mid (form.Group name name rounding.Same (OneReducer Count)) ≡ accepted (with_group mid name name Same (reduced.One part.Count)) plain
 group-taken columns limits place d s may is within accessor =
     let name = (get_or columns place d).name in
     let new : is_some (named s.groups name) ≡ false = not-named s.groups _ name is.groups (name-at columns place d within may.distinct) in
@@ -231,7 +230,7 @@ column-added place d name words group dimension old mid new may before within is
     first ∙ ap (λ n. state_after old (outcome_within old (form.Dimension name (ColumnWords n)))) words_is
     ∙ ap (λ n. state_after old (outcome_within old (form.Dimension n (ColumnWords n)))) is
     ∙ ap (state_after old) (dimension-taken columns limits place d old may stands within) in
-    let both : new ≡ with_group (with_dimension old own.name accessor) own.name own.name Same =
+    let both : new ≡ with_group (with_dimension old own.name accessor) own.name own.name Same (reduced.One part.Count) =
     second ∙ ap (λ n. state_after mid (outcome_within mid (form.Group n dimension rounding.Same (OneReducer Count)))) (group_is ∙ is)
     ∙ ap (λ n. state_after mid (outcome_within mid (form.Group own.name n rounding.Same (OneReducer Count)))) (dimension_is ∙ is)
     ∙ ap (λ s. state_after s (outcome_within s (form.Group own.name own.name rounding.Same (OneReducer Count)))) one
@@ -245,9 +244,6 @@ session-of columns limits count s is =
     (stands.columns, stands.limits)
 
 -- which stand for each other
-pub begins-for : (own columns : List Column) (bounds limits : Bounds) → own ≡ columns → bounds ≡ limits → MayBegin columns limits → MayBegin own bounds
-begins-for own columns bounds limits are same may = subst (λ c. MayBegin c bounds) (sym are) (subst (MayBegin columns) (sym same) may)
-
 pub session-for : (own columns : List Column) (bounds limits : Bounds) (count : ℕ) (s : Session) → own ≡ columns → bounds ≡ limits → s ≡ session_to columns limits count → s ≡ session_to own bounds count
 session-for own columns bounds limits count s are same is = is ∙ ap (λ c. session_to c limits count) (sym are) ∙ ap (λ b. session_to own b count) (sym same)
 

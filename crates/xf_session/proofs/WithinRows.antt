@@ -1,5 +1,5 @@
 -- The places that a crossfilter lists are places of its rows.
-use Rattle.std.proofs.Common.{◌≡◌, ℕ, ◌+◌, ◌<◌, ◌≤◌, Bool, true, false, cond, List, [], ◌∷◌, ◌++◌, drop, filter, flat_map, length, map, reverse, take, Option, Some, None, option_map, unwrap_or, subst, sym, arith}
+use Rattle.std.proofs.Common.{◌≡◌, ℕ, ◌+◌, ◌<◌, ◌≤◌, Bool, true, false, cond, List, [], ◌∷◌, drop, filter, flat_map, length, map, reverse, take, Option, Some, None, option_map, subst, sym, arith}
 use Rattle.std.specs.List.{AllByRecursion, enumerate_from}
 use Rattle.std.specs.declared.cmp.Ordering.{Ordering}
 use Rattle.std.proofs.lemmas.Grind.{reverse_onto}
@@ -7,7 +7,7 @@ use Rattle.xf_base.specs.Key.{key_cmp}
 use Rattle.xf_base.specs.declared.cell.Cell.{Cell}
 use Rattle.xf_base.specs.declared.key.Key.{Key}
 use Rattle.xf_engine.proofs.Passes.{all-drop, all-take}
-use Rattle.xf_engine.specs.Answers.{all_filtered_of, bottom_of, places_where, top_of}
+use Rattle.xf_engine.specs.Answers.{all_filtered_of, bottom_of, top_of}
 use Rattle.xf_engine.specs.State.{LiveDimension, State, dimension_named, dimension_of, dimensions_of}
 use Rattle.xf_model.proofs.AscendingKeys.{all-distinct_keys}
 use Rattle.xf_model.specs.Bottom.{bottom, pair_cmp, pairs_of, places_of, row_pairs, top}
@@ -39,7 +39,7 @@ placed-below : {Row : Type 0} (test : Row → Bool) (limit start : ℕ) (rows : 
 placed-below test limit start [] few = tt
 placed-below test limit start (row ∷ rows) few = placed-more limit start row (test row) (filter (λ at. test at.1) (enumerate_from (start + 1) rows)) (omega arith) (placed-below test limit (start + 1) rows (omega arith))
 
-pub all_filtered-below : {A G P : Type 0} (keys_of : A → List Cell → List Key) (says : P → Key → Bool) (state : State A G P) (ignored : List ℕ)
+pub all_filtered-below : {A G P R : Type 0} (keys_of : A → List Cell → List Key) (says : P → Key → Bool) (state : State A G P R) (ignored : List ℕ)
     → AreBelow (length state.rows) (all_filtered_of keys_of says state ignored)
 all_filtered-below keys_of says state ignored =
     all-map (λ place. place < length state.rows) (λ (at : ℕ × List Cell). at.0) _ (placed-below _ (length state.rows) 0 state.rows (omega arith))
@@ -77,7 +77,7 @@ bottom_for-below keys_of says lives rows k offset (Some live) places is =
     subst (AreBelow (length rows)) (cc is) (places-below (length rows) k offset (bottom key_cmp (dimensions_of keys_of says lives) (dimension_of keys_of says live) rows) (bottom-below key_cmp (dimensions_of keys_of says lives) (dimension_of keys_of says live) rows))
 bottom_for-below keys_of says lives rows k offset None places is = absurd (cc is)
 
-pub bottom-listed : {A G P : Type 0} (keys_of : A → List Cell → List Key) (says : P → Key → Bool) (state : State A G P) (id k offset : ℕ) (places : List ℕ)
+pub bottom-listed : {A G P R : Type 0} (keys_of : A → List Cell → List Key) (says : P → Key → Bool) (state : State A G P R) (id k offset : ℕ) (places : List ℕ)
     → bottom_of keys_of says state id k offset ≡ Some places → AreBelow (length state.rows) places
 bottom-listed keys_of says state id k offset places is = bottom_for-below keys_of says state.dimensions state.rows k offset (dimension_named state id) places is
 
@@ -88,6 +88,6 @@ top_for-below keys_of says lives rows k offset (Some live) places is =
     subst (AreBelow (length rows)) (cc is) (places-below (length rows) k offset (reverse pairs) (all-reverse (λ (pair : Key × ℕ). pair.1 < length rows) pairs (bottom-below key_cmp (dimensions_of keys_of says lives) (dimension_of keys_of says live) rows)))
 top_for-below keys_of says lives rows k offset None places is = absurd (cc is)
 
-pub top-listed : {A G P : Type 0} (keys_of : A → List Cell → List Key) (says : P → Key → Bool) (state : State A G P) (id k offset : ℕ) (places : List ℕ)
+pub top-listed : {A G P R : Type 0} (keys_of : A → List Cell → List Key) (says : P → Key → Bool) (state : State A G P R) (id k offset : ℕ) (places : List ℕ)
     → top_of keys_of says state id k offset ≡ Some places → AreBelow (length state.rows) places
 top-listed keys_of says state id k offset places is = top_for-below keys_of says state.dimensions state.rows k offset (dimension_named state id) places is

@@ -1,5 +1,5 @@
--- What the words for accessors and roundings name, and which columns they take.
-use Rattle.std.specs.Prelude.{ℕ, ◌<◌, ◌^◌, ⊤, Bool, true, false, List, [], ◌∷◌, Option, Some, None, unwrap_or, is_none, is_some, pos, if◌then◌else◌}
+-- What the words for accessors, roundings and reducers name, and which columns they take.
+use Rattle.std.specs.Prelude.{ℕ, ◌<◌, ◌^◌, ⊤, Bool, true, false, List, [], ◌∷◌, ◌++◌, Option, Some, None, unwrap_or, is_none, is_some, pos, if◌then◌else◌}
 use Rattle.xf_access.specs.Stock.{is_of_dates, is_of_tags, kind_at}
 use Rattle.xf_access.specs.declared.stock_accessor.StockAccessor.{StockAccessor}
 use Rattle.xf_access.specs.declared.stock_accessor.StockAccessor.TheVariants as stock
@@ -15,10 +15,19 @@ use Rattle.xf_base.specs.declared.form.KeyForm.{KeyForm}
 use Rattle.xf_base.specs.declared.form.KeyForm.TheVariants.{One, Pair}
 use Rattle.xf_reply.specs.declared.refusal.Refusal.{Refusal}
 use Rattle.xf_reply.specs.declared.refusal.Refusal.TheVariants.{NoColumn, WrongColumn}
+use Rattle.xf_reduce.specs.Number.{is_number_kind}
+use Rattle.xf_reduce.specs.declared.simple.Simple.{Simple}
+use Rattle.xf_reduce.specs.declared.simple.Simple.TheVariants as part
+use Rattle.xf_reduce.specs.declared.stock_reducer.StockReducer.{StockReducer}
+use Rattle.xf_reduce.specs.declared.stock_reducer.StockReducer.TheVariants as stock_reducer
 use Rattle.xf_script.specs.declared.words.AccessorWords.{AccessorWords}
 use Rattle.xf_script.specs.declared.words.AccessorWords.TheVariants as accessor
+use Rattle.xf_script.specs.declared.words.ReducerWords.{ReducerWords}
+use Rattle.xf_script.specs.declared.words.ReducerWords.TheVariants as reducer
 use Rattle.xf_script.specs.declared.words.RoundingWords.{RoundingWords}
 use Rattle.xf_script.specs.declared.words.RoundingWords.TheVariants as rounding
+use Rattle.xf_script.specs.declared.words.SimpleWords.{SimpleWords}
+use Rattle.xf_script.specs.declared.words.SimpleWords.TheVariants as words
 
 -- the form of a column's cells as keys; tags are many
 abbrev pub form_of_column : Option ColumnKind → Option AtomForm
@@ -112,3 +121,38 @@ applies (Floor width) form = is_fixed form
 applies MonthOf form = is_date form
 applies YearOf form = is_date form
 applies (FirstLetters count) form = is_text form
+
+-- ---- reducers
+
+-- a column of whole numbers or decimals
+abbrev pub is_of_numbers : Option ColumnKind → Bool
+is_of_numbers (Some own) = is_number_kind own
+is_of_numbers None = false
+
+-- the part that words name
+abbrev pub simple_of : List Column → SimpleWords → Simple
+simple_of columns words.Count = part.Count
+simple_of columns (words.Sum name) = part.Sum (column_at columns name)
+simple_of columns (words.SumCount name) = part.SumCount (column_at columns name)
+simple_of columns (words.SumSquares name) = part.SumSquares (column_at columns name)
+simple_of columns (words.Spread name) = part.Spread (column_at columns name)
+
+-- why the column of a part does not do
+abbrev pub numbers_causes : List Column → List ℕ → List (Option Refusal)
+numbers_causes columns name = no_column columns name ∷ wrong_column is_of_numbers columns name ∷ []
+
+abbrev pub simple_causes : List Column → SimpleWords → List (Option Refusal)
+simple_causes columns words.Count = []
+simple_causes columns (words.Sum name) = numbers_causes columns name
+simple_causes columns (words.SumCount name) = numbers_causes columns name
+simple_causes columns (words.SumSquares name) = numbers_causes columns name
+simple_causes columns (words.Spread name) = numbers_causes columns name
+
+-- the reducer that words name, and why a column of it does not do, from left to right
+abbrev pub reducer_of : List Column → ReducerWords → StockReducer
+reducer_of columns (reducer.One first) = stock_reducer.One (simple_of columns first)
+reducer_of columns (reducer.Both first second) = stock_reducer.Two (simple_of columns first) (simple_of columns second)
+
+abbrev pub reducer_causes : List Column → ReducerWords → List (Option Refusal)
+reducer_causes columns (reducer.One first) = simple_causes columns first
+reducer_causes columns (reducer.Both first second) = simple_causes columns first ++ simple_causes columns second

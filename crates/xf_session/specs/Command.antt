@@ -2,9 +2,9 @@
 --
 -- The causes of a refusal stand in the order in which they are tried. What an equation says of a name that is not live has
 -- no effect, since the cause for that stands in its list.
-use Rattle.std.specs.Prelude.{◌≡◌, ◌⊎◌, ℕ, ◌+◌, ◌==◌, nat_le, nat_lt, Bool, true, false, not, if◌then◌else◌, List, [], ◌∷◌, ◌++◌, filter, find, length, map, Option, Some, None, is_none, is_some, option_and_then, option_map, slice_get, unwrap_or, Result, Ok, Err}
+use Rattle.std.specs.Prelude.{◌≡◌, ◌⊎◌, ℕ, ◌+◌, ◌==◌, nat_le, nat_lt, Bool, not, if◌then◌else◌, List, [], ◌∷◌, ◌++◌, filter, find, length, map, Option, Some, None, is_none, is_some, option_and_then, option_map, slice_get, unwrap_or, Result, Ok, Err}
 use Rattle.std.specs.FinMap as map_of
-use Rattle.std.specs.List.{enumerate_from, range_with_len}
+use Rattle.std.specs.List.{range_with_len}
 use Rattle.std.specs.Ordering.{is_eq}
 use Rattle.std.specs.Result.{result_unwrap_or}
 use Rattle.std.specs.Str.{bytes_eq}
@@ -23,9 +23,8 @@ use Rattle.xf_base.specs.declared.form.KeyForm.TheVariants.{One}
 use Rattle.xf_base.specs.declared.key.Key.{Key}
 use Rattle.xf_engine.specs.Answers as answer
 use Rattle.xf_engine.specs.Changes as change
-use Rattle.xf_engine.specs.State.{dimension_ids, entries_by, entry_count, group_ids, group_named, is_taken}
+use Rattle.xf_engine.specs.State.{LiveGroup, dimension_ids, entries_by, entry_count, group_ids, group_named, is_taken, whole_ids, whole_named}
 use Rattle.xf_engine.specs.declared.ids.GroupId.{GroupId}
-use Rattle.xf_engine.specs.declared.key_number.KeyNumber.{KeyNumber}
 use Rattle.xf_filter.specs.Filter.{filter_keys, first_other, item_keys}
 use Rattle.xf_filter.specs.Resolving.{resolved, resolved_item}
 use Rattle.xf_filter.specs.Stock.{stock_keys, stock_says}
@@ -36,6 +35,10 @@ use Rattle.xf_load.specs.declared.load.LoadRefusal.{LoadRefusal}
 use Rattle.xf_load.specs.declared.load.LoadRefusal.TheVariants as load
 use Rattle.xf_model.specs.Replay.{skipped, refused, accepted}
 use Rattle.xf_outside.specs.Account.{Files}
+use Rattle.xf_reduce.specs.StockReducer.{stock_decimals, stock_field, stock_field_count, stock_of}
+use Rattle.xf_reduce.specs.declared.simple.SimpleMeaning.{SimpleMeaning}
+use Rattle.xf_reduce.specs.declared.stock_reducer.StockReducer.{StockReducer}
+use Rattle.xf_reply.specs.declared.answer.Field.{Field}
 use Rattle.xf_reply.specs.declared.refusal.Refusal.{Refusal}
 use Rattle.xf_reply.specs.declared.refusal.Refusal.TheVariants as refusal
 use Rattle.xf_reply.specs.declared.reply.Change.TheVariants.{Plain, Added, Removed, Moved}
@@ -44,14 +47,9 @@ use Rattle.xf_script.specs.declared.command.CommandForm.{CommandForm}
 use Rattle.xf_script.specs.declared.command.CommandForm.TheVariants as form
 use Rattle.xf_script.specs.declared.line_refusal.LineRefusal.{LineRefusal}
 use Rattle.xf_script.specs.declared.line_refusal.LineRefusal.TheVariants as line
-use Rattle.xf_script.specs.declared.words.AccessorWords.{AccessorWords}
-use Rattle.xf_script.specs.declared.words.ReducerWords.{ReducerWords}
-use Rattle.xf_script.specs.declared.words.ReducerWords.TheVariants as reducer
-use Rattle.xf_script.specs.declared.words.SimpleWords.{SimpleWords}
-use Rattle.xf_script.specs.declared.words.SimpleWords.TheVariants as simple
-use Rattle.xf_session.specs.Columns.{accessor_causes, accessor_of, applies, rounding_of}
-use Rattle.xf_session.specs.Outcome.{Answer, Outcome, Changes, Records, Entries, Entry, Number, Counts, Nothing}
-use Rattle.xf_session.specs.State.{Name, Session, StockFilter, StockState, dimension_id_of, group_id_of, named, naming_of}
+use Rattle.xf_session.specs.Columns.{accessor_causes, accessor_of, applies, reducer_causes, reducer_of, rounding_of}
+use Rattle.xf_session.specs.Outcome.{Answer, KeyFields, Outcome, Changes, Records, Entries, Entry, Number, Counts, Nothing}
+use Rattle.xf_session.specs.State.{Name, Session, StockFilter, StockState, dimension_id_of, group_id_of, named, naming_of, whole_id_of}
 use Rattle.xf_session.specs.declared.naming.Naming.{Naming}
 use Rattle.xf_table.specs.Table.{text_of_rows}
 
@@ -82,11 +80,21 @@ no_dimension s name = where_so (is_none (named s.dimensions name)) (refusal.NoDi
 abbrev pub no_group : Session → Name → Option Refusal
 no_group s name = where_so (is_none (named s.groups name)) (refusal.NoGroup name)
 
+abbrev pub no_whole : Session → Name → Option Refusal
+no_whole s name = where_so (is_none (named s.wholes name)) (refusal.NoWhole name)
+
 abbrev pub dimension_taken : Session → Name → Option Refusal
 dimension_taken s name = where_so (is_some (named s.dimensions name)) (refusal.NameTaken name)
 
 abbrev pub group_taken : Session → Name → Option Refusal
 group_taken s name = where_so (is_some (named s.groups name)) (refusal.NameTaken name)
+
+abbrev pub whole_taken : Session → Name → Option Refusal
+whole_taken s name = where_so (is_some (named s.wholes name)) (refusal.NameTaken name)
+
+-- how many fields the reducer of the group of an id has
+abbrev pub group_field_count : Session → ℕ → ℕ
+group_field_count s id = unwrap_or (option_map (λ group. stock_field_count group.reducer) (group_named s.cross id)) 0
 
 -- the first of some keys that is of another kind than those of a dimension
 abbrev pub wrong_kind : Session → Name → List Key → Option Refusal
@@ -119,17 +127,9 @@ too_many_dimensions s = where_so (nat_le s.cross.limits.dimensions (length s.dim
 abbrev pub too_many_groups : Session → Option Refusal
 too_many_groups s = where_so (nat_le s.cross.limits.groups (length s.groups + length s.wholes)) (refusal.TooManyGroups s.cross.limits.groups)
 
--- only groups that count are built
-abbrev pub is_count : ReducerWords → Bool
-is_count (reducer.One simple.Count) = true
-is_count (reducer.One (simple.Sum column)) = false
-is_count (reducer.One (simple.SumCount column)) = false
-is_count (reducer.One (simple.SumSquares column)) = false
-is_count (reducer.One (simple.Spread column)) = false
-is_count (reducer.Both first second) = false
-
-abbrev pub not_built : ReducerWords → Option Refusal
-not_built reducer = where_so (not (is_count reducer)) refusal.NotBuilt
+-- a field that the reducer of a group does not have
+abbrev pub no_field : Session → Name → ℕ → Option Refusal
+no_field s name field = where_so (nat_le (group_field_count s (group_id_of s name)) field) (refusal.NoField field)
 
 -- ---- records that come
 
@@ -143,7 +143,7 @@ as_refusal columns load.NoHeader = refusal.NoHeader
 as_refusal columns (load.MissingColumn place) = refusal.MissingColumn (column_name columns place)
 as_refusal columns (load.UnevenRecord number) = refusal.UnevenRecord number
 as_refusal columns (load.BadCell number place why) = refusal.BadCell number (column_name columns place) why
-as_refusal columns load.OutOfMemory = refusal.NotBuilt
+as_refusal columns load.OutOfMemory = refusal.NoHeader
 
 abbrev pub bad_rows : {X : Type 0} → List Column → Result X LoadRefusal → Option Refusal
 bad_rows columns (Ok rows) = None
@@ -205,10 +205,17 @@ with_dimension s name accessor = let id = free_id (dimension_ids s.cross.dimensi
 }
 
 -- with a group more
-abbrev pub with_group : Session → Name → Name → StockRounding → Session
-with_group s name dimension rounding = let id = free_id (group_ids s.cross.groups) in record s {
-  cross = change.with_group s.cross id (dimension_id_of s dimension) rounding;
+abbrev pub with_group : Session → Name → Name → StockRounding → StockReducer → Session
+with_group s name dimension rounding reducer = let id = free_id (group_ids s.cross.groups) in record s {
+  cross = change.with_group s.cross id (dimension_id_of s dimension) rounding reducer;
   groups = s.groups ++ (name, record { 0 = id }) ∷ [];
+}
+
+-- with a whole more
+abbrev pub with_whole : Session → Name → StockReducer → Session
+with_whole s name reducer = let id = free_id (whole_ids s.cross.wholes) in record s {
+  cross = change.with_whole s.cross id reducer;
+  wholes = s.wholes ++ (name, record { 0 = id }) ∷ [];
 }
 
 -- names without one of them
@@ -231,6 +238,12 @@ abbrev pub without_group : Session → Name → Session
 without_group s name = record s {
   cross = change.without_group s.cross (group_id_of s name);
   groups = without_name name s.groups;
+}
+
+abbrev pub without_whole : Session → Name → Session
+without_whole s name = record s {
+  cross = change.without_whole s.cross (whole_id_of s name);
+  wholes = without_name name s.wholes;
 }
 
 -- ---- answers
@@ -263,17 +276,47 @@ form_named s id = option_map (λ (entry : Name × Naming). entry.1.form) (find (
 abbrev pub group_form : Session → ℕ → KeyForm
 group_form s id = unwrap_or (option_and_then (λ group. form_named s group.dimension) (group_named s.cross id)) (One Text)
 
--- the entries of the group of an id
-abbrev pub group_entries : Session → ℕ → List KeyNumber
-group_entries s id = unwrap_or (answer.entries_of keys_of_row stock_says rounded_key s.cross id) []
+-- what a reducer of the stock keeps
+abbrev pub Kept : Type 0
+Kept = SimpleMeaning × SimpleMeaning
+
+-- the fields of it, each with its decimals
+abbrev pub fields_of : List Column → StockReducer → Kept → List Field
+fields_of columns reducer meaning =
+    map (λ field. record { number = stock_field reducer meaning field; decimals = stock_decimals reducer columns field }) (range_with_len 0 (stock_field_count reducer))
+
+abbrev pub with_fields : List Column → StockReducer → List (Key × Kept) → List KeyFields
+with_fields columns reducer entries = map (λ (entry : Key × Kept). (entry.0, fields_of columns reducer entry.1)) entries
+
+-- all entries of a group, and the first by its order
+abbrev pub entries_of : Session → LiveGroup StockRounding StockReducer → List KeyFields
+entries_of s group = with_fields s.cross.columns group.reducer (answer.entries_of keys_of_row stock_says rounded_key stock_of s.cross group)
+
+abbrev pub top_of : Session → ℕ → LiveGroup StockRounding StockReducer → List KeyFields
+top_of s count group = with_fields s.cross.columns group.reducer (answer.top_entries keys_of_row stock_says rounded_key stock_of stock_field s.cross count group)
+
+-- those of the group of an id
+abbrev pub group_entries : Session → ℕ → List KeyFields
+group_entries s id = unwrap_or (option_map (entries_of s) (group_named s.cross id)) []
+
+abbrev pub group_tops : Session → ℕ → ℕ → List KeyFields
+group_tops s id count = unwrap_or (option_map (top_of s count) (group_named s.cross id)) []
 
 abbrev pub entries_at : Session → ℕ → Answer
 entries_at s id = Entries (group_form s id) (group_entries s id)
 
+abbrev pub tops_at : Session → ℕ → ℕ → Answer
+tops_at s id count = Entries (group_form s id) (group_tops s id count)
+
 -- the entry of the key that a word names
 abbrev pub entry_at : Session → ℕ → List ℕ → Answer
 entry_at s id word =
-    Entry (group_form s id) (find (λ entry. is_eq (key_cmp entry.key (key_of_word (group_form s id) word))) (group_entries s id))
+    Entry (group_form s id) (find (λ (entry : KeyFields). is_eq (key_cmp entry.0 (key_of_word (group_form s id) word))) (group_entries s id))
+
+-- the fields of the whole of an id
+abbrev pub whole_fields : Session → ℕ → List Field
+whole_fields s id =
+    unwrap_or (option_map (λ whole. fields_of s.cross.columns whole.reducer (answer.whole_meaning keys_of_row stock_says stock_of s.cross whole)) (whole_named s.cross id)) []
 
 -- ---- the commands
 
@@ -318,22 +361,28 @@ outcome_of files s (form.Dimension name words) = let accessor = accessor_of s.cr
     ++ too_many_dimensions s ∷ too_many_entries s (entries_by keys_of_row s.cross.rows accessor) ∷ [])
     (with_dimension s name accessor) plain
 outcome_of files s (form.Group name dimension words reducer) = let rounding = rounding_of words in
-    unless (not_built reducer ∷ group_taken s name ∷ no_dimension s dimension
-    ∷ where_so (not (applies rounding (naming_of s dimension).form)) refusal.WrongRounding ∷ too_many_groups s ∷ [])
-    (with_group s name dimension rounding) plain
-outcome_of files s (form.Whole name reducer) = refused refusal.NotBuilt
-outcome_of files s (form.Order name field) = refused refusal.NotBuilt
+    unless (group_taken s name ∷ no_dimension s dimension ∷ where_so (not (applies rounding (naming_of s dimension).form)) refusal.WrongRounding
+    ∷ reducer_causes s.cross.columns reducer ++ too_many_groups s ∷ [])
+    (with_group s name dimension rounding (reducer_of s.cross.columns reducer)) plain
+outcome_of files s (form.Whole name reducer) =
+    unless (whole_taken s name ∷ reducer_causes s.cross.columns reducer ++ too_many_groups s ∷ [])
+    (with_whole s name (reducer_of s.cross.columns reducer)) plain
+outcome_of files s (form.Order name field) = let place = unwrap_or field 0 in
+    unless (no_group s name ∷ no_field s name place ∷ [])
+    (with_cross s (change.with_order s.cross (group_id_of s name) place)) plain
 outcome_of files s (form.DisposeDimension name) =
     unless (no_dimension s name ∷ [])
     (without_dimension s name) (moving (moved s name All))
 outcome_of files s (form.DisposeGroup name) =
     unless (no_group s name ∷ [])
     (without_group s name) plain
-outcome_of files s (form.DisposeWhole name) = refused refusal.NotBuilt
+outcome_of files s (form.DisposeWhole name) =
+    unless (no_whole s name ∷ [])
+    (without_whole s name) plain
 outcome_of files s (form.Top name count offset) = unless (no_dimension s name ∷ []) s (top_at s name count offset)
 outcome_of files s (form.Bottom name count offset) = unless (no_dimension s name ∷ []) s (bottom_at s name count offset)
 outcome_of files s (form.Groups name) = unless (no_group s name ∷ []) s (entries_at s (group_id_of s name))
-outcome_of files s (form.GroupTop name count) = refused refusal.NotBuilt
+outcome_of files s (form.GroupTop name count) = unless (no_group s name ∷ []) s (tops_at s (group_id_of s name) count)
 outcome_of files s (form.Value name key) = unless (no_group s name ∷ []) s (entry_at s (group_id_of s name) key)
 outcome_of files s (form.Records names) = unless (map (no_dimension s) names) s (records_but s names)
 outcome_of files s form.Size = accepted s (Number (length s.cross.rows))
@@ -350,7 +399,7 @@ cause_of_line (line.NotText place) = refusal.NotText place
 cause_of_line line.Verb = refusal.UnknownVerb
 cause_of_line (line.Word number) = refusal.BadWord number
 cause_of_line (line.TooDeep number) = refusal.TooDeep number
-cause_of_line line.OutOfMemory = refusal.NotBuilt
+cause_of_line line.OutOfMemory = refusal.UnknownVerb
 
 abbrev pub outcome_read : Files → Session → Read (Option CommandForm) → Outcome
 outcome_read files s (Err cause) = refused (cause_of_line cause)

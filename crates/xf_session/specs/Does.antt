@@ -1,5 +1,5 @@
 -- What a call did, by the outcome that it is to have.
-use Rattle.std.specs.Prelude.{◌≡◌, List, Result, Ok, Err}
+use Rattle.std.specs.Prelude.{◌≡◌, Result, Ok, Err}
 use Rattle.std.specs.FinMap as map_of
 use Rattle.xf_model.specs.Replay.{state_after}
 use Rattle.xf_outside.specs.Account.{Files}

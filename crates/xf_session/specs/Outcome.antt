@@ -1,10 +1,11 @@
 -- What a line does, with its cause or its answer as a value, and what is written for that.
-use Rattle.std.specs.Prelude.{ℕ, List, [], ◌∷◌, ◌++◌, flat_map, Option, Some, None}
+use Rattle.std.specs.Prelude.{ℕ, List, [], ◌++◌, flat_map, Option, Some, None}
 use Rattle.xf_base.specs.declared.cell.Cell.{Cell}
 use Rattle.xf_base.specs.declared.column.Column.{Column}
 use Rattle.xf_base.specs.declared.form.KeyForm.{KeyForm}
 use Rattle.xf_engine.specs.declared.events.Events.{Events}
-use Rattle.xf_engine.specs.declared.key_number.KeyNumber.{KeyNumber}
+use Rattle.xf_base.specs.declared.key.Key.{Key}
+use Rattle.xf_reply.specs.declared.answer.Field.{Field}
 use Rattle.xf_model.specs.Replay as replay
 use Rattle.xf_reply.specs.Answer as line
 use Rattle.xf_reply.specs.Step.{reply_text}
@@ -14,13 +15,17 @@ use Rattle.xf_reply.specs.declared.reply.Reply.{Reply}
 use Rattle.xf_reply.specs.declared.reply.Reply.TheVariants as reply
 use Rattle.xf_session.specs.State.{Session}
 
+-- an entry of a group: its key and its fields
+abbrev pub KeyFields : Type 0
+KeyFields = Key × List Field
+
 -- the answer to an accepted line: what changed; records of these columns with their places; entries of a group, whose keys
 -- are written so; the entry of a key, if there is one; a number; counts of events; nothing
 pub data Answer : Type 0 where
   Changes : Change → Answer
   Records : List Column → List (ℕ × List Cell) → Answer
-  Entries : KeyForm → List KeyNumber → Answer
-  Entry : KeyForm → Option KeyNumber → Answer
+  Entries : KeyForm → List KeyFields → Answer
+  Entry : KeyForm → Option KeyFields → Answer
   Number : ℕ → Answer
   Counts : Events → Answer
   Nothing : Answer
@@ -30,11 +35,11 @@ Outcome = replay.Outcome Session Refusal Answer
 
 -- ---- what is written
 
-abbrev pub entry_lines : KeyForm → List KeyNumber → List ℕ
-entry_lines form entries = flat_map (λ entry. line.entry_line form entry.key entry.number) entries
+abbrev pub entry_lines : KeyForm → List KeyFields → List ℕ
+entry_lines form entries = flat_map (λ (entry : KeyFields). line.entry_line form entry.0 entry.1) entries
 
-abbrev pub found_line : KeyForm → Option KeyNumber → List ℕ
-found_line form (Some entry) = line.entry_line form entry.key entry.number
+abbrev pub found_line : KeyForm → Option KeyFields → List ℕ
+found_line form (Some entry) = line.entry_line form entry.0 entry.1
 found_line form None = line.none_line
 
 abbrev pub record_lines : List Column → List (ℕ × List Cell) → List ℕ

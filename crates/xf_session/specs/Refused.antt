@@ -8,4 +8,4 @@ use Rattle.xf_reply.specs.declared.refusal.Refusal.TheVariants as refusal
 abbrev pub cause_of_dimension : DimensionRefusal → Refusal
 cause_of_dimension (dimension.TooManyDimensions limit) = refusal.TooManyDimensions limit
 cause_of_dimension (dimension.TooManyEntries have more limit) = refusal.TooManyEntries have more limit
-cause_of_dimension dimension.OutOfMemory = refusal.NotBuilt
+cause_of_dimension dimension.OutOfMemory = refusal.UnknownVerb

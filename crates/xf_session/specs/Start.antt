@@ -10,6 +10,8 @@ use Rattle.xf_reply.specs.declared.refusal.Refusal.{Refusal}
 use Rattle.xf_reply.specs.declared.refusal.Refusal.TheVariants as refusal
 use Rattle.xf_script.specs.declared.words.AccessorWords.TheVariants.{Column as ColumnWords}
 use Rattle.xf_access.specs.declared.stock_rounding.StockRounding.TheVariants.{Same}
+use Rattle.xf_reduce.specs.declared.simple.Simple.TheVariants.{Count}
+use Rattle.xf_reduce.specs.declared.stock_reducer.StockReducer.TheVariants.{One}
 use Rattle.xf_session.specs.Columns.{accessor_of}
 use Rattle.xf_session.specs.Command.{with_dimension, with_group, with_rows}
 use Rattle.xf_session.specs.State.{Session}
@@ -18,19 +20,19 @@ use Rattle.xf_sheet.specs.SheetParts.{AreDistinctNames, IsInt, SheetParts, colum
 use Rattle.xf_sheet.specs.declared.sheet.SheetRefusal.{SheetRefusal}
 use Rattle.xf_sheet.specs.declared.sheet.SheetRefusal.TheVariants as sheet
 
--- of these columns, without records, dimensions and groups; the whole `all` counts
+-- of these columns, without records, dimensions and groups; its one whole, `all`, counts
 abbrev pub empty_session : List Column → Bounds → Session
 empty_session columns limits = record {
-  cross = record { columns = columns; limits = limits; rows = []; dimensions = []; groups = []; events = no_events };
+  cross = record { columns = columns; limits = limits; rows = []; dimensions = []; groups = []; wholes = record { id = 0; reducer = One Count } ∷ []; events = no_events };
   dimensions = [];
   groups = [];
-  wholes = codes "all" ∷ [];
+  wholes = (codes "all", record { 0 = 0 }) ∷ [];
 }
 
 -- with a dimension of a column, under the column's name, and a group of that dimension, which has the same name
 abbrev pub with_column : Session → Column → Session
 with_column s column =
-    with_group (with_dimension s column.name (accessor_of s.cross.columns (ColumnWords column.name))) column.name column.name Same
+    with_group (with_dimension s column.name (accessor_of s.cross.columns (ColumnWords column.name))) column.name column.name Same (One Count)
 
 -- that of the first columns, without records
 abbrev pub session_to : List Column → Bounds → ℕ → Session
@@ -55,7 +57,7 @@ cause_of_sheet sheet.NoHeader = refusal.NoHeader
 cause_of_sheet (sheet.UnevenRecord number) = refusal.UnevenRecord number
 cause_of_sheet (sheet.TooManyRecords more limit) = refusal.TooManyRecords 0 more limit
 cause_of_sheet (sheet.TooManyEntries more limit) = refusal.TooManyEntries 0 more limit
-cause_of_sheet sheet.OutOfMemory = refusal.NotBuilt
+cause_of_sheet sheet.OutOfMemory = refusal.NoHeader
 
 -- the session of a file, or why it has none
 abbrev pub csv_session : Bounds → List ℕ → Result Session Refusal

@@ -1,22 +1,21 @@
 //! The commands that ask: lists of records, entries of groups, and counts.
-ghost use Rattle.std.specs.Prelude.{◌≡◌, ◌<◌, IfOk, OnOk, find, length, option_copied};
+ghost use Rattle.std.specs.Prelude.{◌≡◌, ◌<◌, IfOk, OnOk, find, length};
 ghost use Rattle.std.specs.List.{AllByRecursion};
 ghost use Rattle.std.specs.Ordering.{is_eq};
 ghost use Rattle.xf_base.specs.Key.{key_cmp};
 ghost use Rattle.xf_model.specs.Replay.{accepted};
-ghost use Rattle.xf_reply.specs.Answer.{entry_line, none_line};
 ghost use Rattle.xf_reply.specs.Put.{Puts};
 ghost use Rattle.xf_reply.specs.Step.{HasText};
-ghost use Rattle.xf_script.specs.declared.command.CommandForm.TheVariants.{Bottom, Events, Groups, Passing, Records, Size, Top, Value};
-ghost use Rattle.xf_session.specs.Command.{placed_at, records_at};
+ghost use Rattle.xf_script.specs.declared.command.CommandForm.TheVariants.{Bottom, Events, GroupTop, Groups, Passing, Records, Size, Top, Value};
+ghost use Rattle.xf_session.specs.Command.{group_entries, placed_at, records_at};
 ghost use Rattle.xf_session.specs.Does.{Tells, outcome_within};
-ghost use Rattle.xf_session.specs.Outcome.{Number, entry_lines, found_line, record_lines};
+ghost use Rattle.xf_session.specs.Outcome.{KeyFields, Number, found_line, record_lines};
 
+use crate::entries::tell_fields;
 use crate::session::Session;
-use std::alloc::Global;
 use std::sync::ledger::Ledger;
 use xf_base::{Key, KeyForm, OutOfMemory, Steps, Text, TextList, key_of_word};
-use xf_engine::{KeyNumber, ListRefusal};
+use xf_engine::{GroupId, ListRefusal};
 use xf_reply::{
     Bytes, Refusal, Reply, put_entry, put_events, put_none, put_number_line, put_record,
 };
@@ -140,9 +139,27 @@ impl Session {
             return Ok(Reply::Refused(Refusal::NoGroup { name }));
         };
         let form = self.group_form(id);
-        let entries = self.group_entries(id, steps)?;
         let mut out = Vec::new(self.alloc);
-        put_entries(self.alloc, &mut out, &form, entries.as_slice())?;
+        self.put_entries(&mut out, id, &form, steps)?;
+        Ok(Reply::Answer(Bytes::from_vec(out)))
+    }
+
+    /// `grouptop G K`.
+    pub(crate) fn group_top<L: Ledger>(
+        &self,
+        name: Text,
+        count: u64,
+        steps: &mut Steps<L>,
+    ) -> Result<Reply, OutOfMemory>
+        ensures answer { Tells (outcome_within self.now (GroupTop name count)) result }
+        ensures utf8 { IfOk result HasText }
+    {
+        let Some(id) = self.group(name.as_str()) else {
+            return Ok(Reply::Refused(Refusal::NoGroup { name }));
+        };
+        let form = self.group_form(id);
+        let mut out = Vec::new(self.alloc);
+        self.put_tops(&mut out, id, count as usize, &form, steps)?;
         Ok(Reply::Answer(Bytes::from_vec(out)))
     }
 
@@ -161,15 +178,31 @@ impl Session {
         };
         let form = self.group_form(id);
         let key = key_of_word(self.alloc, &form, word)?;
-        let entries = self.group_entries(id, steps)?;
         let mut out = Vec::new(self.alloc);
-        put_found(
-            self.alloc,
-            &mut out,
-            &form,
-            entry_of(entries.as_slice(), &key),
-        )?;
+        self.put_entry_of(&mut out, id, &form, &key, steps)?;
         Ok(Reply::Answer(Bytes::from_vec(out)))
+    }
+
+    /// Appends the line of the entry of a key, or that of none.
+    fn put_entry_of<L: Ledger>(
+        &self,
+        out: &mut Vec<u8>,
+        id: GroupId,
+        form: &KeyForm,
+        key: &Key,
+        steps: &mut Steps<L>,
+    ) -> Result<(), OutOfMemory>
+        ensures { OnOk result (Puts out.old.items out.new.items (found_line form.now (find (λ (entry : KeyFields). is_eq (key_cmp entry.0 key.now)) (group_entries self.now id.0)))) }
+    {
+        let Some(reducer) = self.group_reducer(id) else {
+            return put_none(out);
+        };
+        let Some(value) = self.group_value(id, key, steps) else {
+            return put_none(out);
+        };
+        let mut fields = Vec::new(self.alloc);
+        tell_fields(&mut fields, reducer, self.cross.schema(), value)?;
+        put_entry(out, &mut Vec::new(self.alloc), form, key, fields.as_slice())
     }
 
     /// `size`.
@@ -208,61 +241,4 @@ impl Session {
         put_number_line(&mut out, number)?;
         Ok(Reply::Answer(Bytes::from_vec(out)))
     }
-}
-
-/// The entry of a key, if there is one.
-fn entry_of<'a>(entries: &'a [KeyNumber], key: &Key) -> Option<&'a KeyNumber>
-    ensures { option_copied result ≡ find (λ entry. is_eq (key_cmp entry.key key.now)) entries.now }
-{
-    entries.iter().find(|entry| entry.key == *key)
-}
-
-/// Appends the line of an entry, or that of none.
-fn put_found(
-    alloc: Global,
-    out: &mut Vec<u8>,
-    form: &KeyForm,
-    found: Option<&KeyNumber>,
-) -> Result<(), OutOfMemory>
-    ensures { OnOk result (Puts out.old.items out.new.items (found_line form.now (option_copied found.entry))) }
-{
-    match found {
-        Some(entry) => put_next_entry(out, &mut Vec::new(alloc), form, entry),
-        None => put_no_entry(out),
-    }
-}
-
-/// Appends the line of none.
-fn put_no_entry(out: &mut Vec<u8>) -> Result<(), OutOfMemory>
-    ensures { OnOk result (Puts out.old.items out.new.items none_line) }
-{
-    put_none(out)
-}
-
-/// Appends the lines of entries. Where memory is refused a part of them may stand in `out`.
-fn put_entries(
-    alloc: Global,
-    out: &mut Vec<u8>,
-    form: &KeyForm,
-    entries: &[KeyNumber],
-) -> Result<(), OutOfMemory>
-    ensures { OnOk result (Puts out.old.items out.new.items (entry_lines form.now entries.now)) }
-{
-    let mut scratch = Vec::new(alloc);
-    for entry in entries {
-        put_next_entry(out, &mut scratch, form, entry)?;
-    }
-    Ok(())
-}
-
-/// Appends the line of an entry.
-fn put_next_entry(
-    out: &mut Vec<u8>,
-    scratch: &mut Vec<u8>,
-    form: &KeyForm,
-    entry: &KeyNumber,
-) -> Result<(), OutOfMemory>
-    ensures { OnOk result (Puts out.old.items out.new.items (entry_line form.now entry.now.key entry.now.number)) }
-{
-    put_entry(out, scratch, form, &entry.key, entry.number)
 }

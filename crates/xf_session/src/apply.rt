@@ -116,8 +116,8 @@ impl Session {
             CommandForm::Toggle { dimension, item } => {
                 done(self.toggle(dimension, &item, steps))
             }
-            CommandForm::Clear { dimension } => Ok(Performed::Done(self.clear(dimension, steps))),
-            CommandForm::ClearAll => Ok(Performed::Done(self.clear_all(steps))),
+            CommandForm::Clear { dimension } => done(self.clear(dimension, steps)),
+            CommandForm::ClearAll => done(self.clear_all(steps)),
             CommandForm::RemovePassing => done(self.remove_passing(steps)),
             CommandForm::RemoveWhere { dimension, filter } => {
                 done(self.remove_where(dimension, &filter, steps))
@@ -130,11 +130,12 @@ impl Session {
                 dimension,
                 rounding,
                 reducer,
-            } => done(self.add_group(name, dimension, rounding, &reducer, steps)),
-            CommandForm::DisposeDimension { name } => {
-                Ok(Performed::Done(self.dispose_dimension(name, steps)))
-            }
+            } => done(self.add_group(name, dimension, rounding, reducer, steps)),
+            CommandForm::Whole { name, reducer } => done(self.add_whole(name, reducer, steps)),
+            CommandForm::Order { group, field } => Ok(Performed::Done(self.order(group, field))),
+            CommandForm::DisposeDimension { name } => done(self.dispose_dimension(name, steps)),
             CommandForm::DisposeGroup { name } => Ok(Performed::Done(self.dispose_group(name))),
+            CommandForm::DisposeWhole { name } => Ok(Performed::Done(self.dispose_whole(name))),
             CommandForm::Top {
                 dimension,
                 count,
@@ -146,18 +147,13 @@ impl Session {
                 offset,
             } => done(self.bottom(dimension, count, offset, steps)),
             CommandForm::Groups { group } => done(self.groups(group, steps)),
+            CommandForm::GroupTop { group, count } => done(self.group_top(group, count, steps)),
             CommandForm::Value { group, key } => done(self.value(group, &key, steps)),
             CommandForm::Records { dimensions } => { done(self.records(dimensions, steps)) }
             CommandForm::Size => done(self.size()),
             CommandForm::Passing => done(self.passing(steps)),
             CommandForm::Events => done(self.events()),
             CommandForm::Note { .. } => Ok(Performed::Done(Reply::Answer(Bytes::new(self.alloc)))),
-            CommandForm::Whole { .. }
-            | CommandForm::Order { .. }
-            | CommandForm::DisposeWhole { .. }
-            | CommandForm::GroupTop { .. } => Ok(Performed::Done(Reply::Refused(
-                Refusal::NotBuilt,
-            ))),
         }
     }
 }

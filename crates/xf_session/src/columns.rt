@@ -1,13 +1,17 @@
-//! What the words for accessors and roundings name.
+//! What the words for accessors, roundings and reducers name.
 ghost use Rattle.std.specs.Prelude.{◌≡◌, ◌∷◌, [], None, Some, IfErr, IfOk, OnOk, true};
 ghost use Rattle.xf_access.specs.Stock.{fits_columns, is_of_dates, is_of_tags, kind_at};
-ghost use Rattle.xf_session.specs.Columns.{IsWidth, accessor_causes, accessor_of, applies, column_at, form_of_column, is_plain, kind_named, no_column, rounding_of, wrong_column};
+ghost use Rattle.xf_session.specs.Columns.{IsWidth, accessor_causes, accessor_of, applies, column_at, form_of_column, is_plain, kind_named, no_column, numbers_causes, reducer_causes, reducer_of, rounding_of, simple_causes, simple_of, wrong_column};
+ghost use Rattle.xf_reduce.specs.Number.{fits_at};
+ghost use Rattle.xf_reduce.specs.Simple.{simple_fits};
+ghost use Rattle.xf_reduce.specs.StockReducer.{stock_fits};
 ghost use Rattle.xf_session.specs.Command.{first_cause};
 
 use xf_access::{StockAccessor, StockRounding};
 use xf_base::{AtomForm, ColumnKind, KeyForm, Schema, Text};
+use xf_reduce::{Simple, StockReducer};
 use xf_reply::Refusal;
-use xf_script::{AccessorWords, RoundingWords};
+use xf_script::{AccessorWords, ReducerWords, RoundingWords, SimpleWords};
 
 /// The accessor that words name, or why a column does not fit: the columns are tried from left to right, each for its
 /// name and then for its kind.
@@ -113,5 +117,51 @@ pub fn applies(rounding: StockRounding, form: KeyForm) -> bool
         StockRounding::Floor(_) => matches!(form, KeyForm::One(AtomForm::Fixed(_))),
         StockRounding::MonthOf | StockRounding::YearOf => form == KeyForm::One(AtomForm::Date),
         StockRounding::FirstLetters(_) => form == KeyForm::One(AtomForm::Text),
+    }
+}
+
+/// The reducer that words name, or why a column does not fit: the columns are tried from left to right, each for its name
+/// and then for its kind.
+pub fn reducer_of(schema: &Schema, words: ReducerWords) -> Result<StockReducer, Refusal>
+    ensures reducer { IfOk result (λ reducer. (reducer ≡ reducer_of schema.now words)
+        × (first_cause (reducer_causes schema.now words) ≡ None) × (stock_fits reducer schema.now ≡ true)) }
+    ensures refused { IfErr result (λ cause. first_cause (reducer_causes schema.now words) ≡ Some cause) }
+{
+    match words {
+        ReducerWords::One(first) => Ok(StockReducer::One(part_of(schema, first)?)),
+        ReducerWords::Both(first, second) => {
+            let first = part_of(schema, first)?;
+            Ok(StockReducer::Two(first, part_of(schema, second)?))
+        }
+    }
+}
+
+/// The part of a reducer that words name.
+fn part_of(schema: &Schema, words: SimpleWords) -> Result<Simple, Refusal>
+    ensures part { IfOk result (λ part. (part ≡ simple_of schema.now words)
+        × (first_cause (simple_causes schema.now words) ≡ None) × (simple_fits part schema.now ≡ true)) }
+    ensures refused { IfErr result (λ cause. first_cause (simple_causes schema.now words) ≡ Some cause) }
+{
+    match words {
+        SimpleWords::Count => Ok(Simple::Count),
+        SimpleWords::Sum(name) => Ok(Simple::Sum(number_column(schema, name)?)),
+        SimpleWords::SumCount(name) => Ok(Simple::SumCount(number_column(schema, name)?)),
+        SimpleWords::SumSquares(name) => Ok(Simple::SumSquares(number_column(schema, name)?)),
+        SimpleWords::Spread(name) => Ok(Simple::Spread(number_column(schema, name)?)),
+    }
+}
+
+/// The place of a column of whole numbers or decimals.
+fn number_column(schema: &Schema, name: Text) -> Result<usize, Refusal>
+    ensures found { IfOk result (λ place. (place ≡ column_at schema.now name) × (fits_at place schema.now ≡ true)) }
+    ensures accepted { OnOk result (first_cause (numbers_causes schema.now name) ≡ None) }
+    ensures refused { IfErr result (λ cause. first_cause (numbers_causes schema.now name) ≡ Some cause) }
+{
+    let Some(place) = schema.place_of(name.as_str().as_bytes()) else {
+        return Err(Refusal::NoColumn { name });
+    };
+    match schema.as_slice()[place].kind {
+        ColumnKind::Int | ColumnKind::Fixed(_) => Ok(place),
+        _ => Err(Refusal::WrongColumn { name }),
     }
 }

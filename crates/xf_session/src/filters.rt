@@ -3,11 +3,9 @@ ghost use Rattle.std.specs.Prelude.{◌≡◌, IfSome, None, Some, option_map};
 ghost use Rattle.xf_base.specs.Kind.{kind_of_key_form};
 ghost use Rattle.xf_filter.specs.Filter.{filter_keys, first_other};
 ghost use Rattle.xf_filter.specs.Stock.{stock_keys};
-ghost use Rattle.xf_model.specs.Replay.{state_after};
 ghost use Rattle.xf_script.specs.declared.command.CommandForm.TheVariants.{Clear, ClearAll, Filter, RemovePassing, RemoveWhere, Toggle};
 ghost use Rattle.xf_session.specs.Command.{filter_on};
 ghost use Rattle.xf_session.specs.Does.{Does, outcome_within};
-ghost use Rattle.xf_session.specs.Outcome.{reply_of};
 ghost use Rattle.xf_session.specs.Filtering.{removing, setting};
 ghost use Rattle.xf_session.specs.State.{named};
 
@@ -33,7 +31,7 @@ impl Session {
             return Ok(Reply::Refused(Refusal::NoDimension { name }));
         };
         let filter = resolve(self.alloc, &naming.form, words)?;
-        Ok(self.set_filter(&name, naming, filter, steps))
+        self.set_filter(&name, naming, filter, steps)
     }
 
     /// `toggle D ITEM`. The filter that is set is of the dimension's kind, so that the toggled one is where the item is.
@@ -50,26 +48,32 @@ impl Session {
         };
         let item = resolve_item(self.alloc, &naming.form, words)?;
         let filter = toggled(self.alloc, old, item)?;
-        Ok(self.set_filter(&name, naming, filter, steps))
+        self.set_filter(&name, naming, filter, steps)
     }
 
     /// `clear D`.
-    pub(crate) fn clear<L: Ledger>(&mut self, name: Text, steps: &mut Steps<L>) -> Reply
-        ensures reply { result ≡ reply_of (outcome_within self.old (Clear name)) }
-        ensures state { self.new ≡ state_after self.old (outcome_within self.old (Clear name)) }
+    pub(crate) fn clear<L: Ledger>(
+        &mut self,
+        name: Text,
+        steps: &mut Steps<L>,
+    ) -> Result<Reply, OutOfMemory>
+        ensures { Does (outcome_within self.old (Clear name)) self.old self.new result }
     {
         let Some(naming) = self.naming(&name) else {
-            return Reply::Refused(Refusal::NoDimension { name });
+            return Ok(Reply::Refused(Refusal::NoDimension { name }));
         };
         self.set_filter(&name, naming, StockFilter::All, steps)
     }
 
     /// `clearall`.
-    pub(crate) fn clear_all<L: Ledger>(&mut self, steps: &mut Steps<L>) -> Reply
-        ensures reply { result ≡ reply_of (outcome_within self.old ClearAll) }
-        ensures state { self.new ≡ state_after self.old (outcome_within self.old ClearAll) }
+    pub(crate) fn clear_all<L: Ledger>(
+        &mut self,
+        steps: &mut Steps<L>,
+    ) -> Result<Reply, OutOfMemory>
+        ensures { Does (outcome_within self.old ClearAll) self.old self.new result }
     {
-        Reply::Changed(Change::Moved(self.cross.clear_all(steps)))
+        let moved = self.cross.clear_all(steps)?;
+        Ok(Reply::Changed(Change::Moved(moved)))
     }
 
     /// Sets a filter on the dimension of a name, or refuses it where a key of it is of another kind.
@@ -79,17 +83,17 @@ impl Session {
         naming: Naming,
         filter: StockFilter,
         steps: &mut Steps<L>,
-    ) -> Reply
+    ) -> Result<Reply, OutOfMemory>
         requires { named self.old.dimensions name.now ≡ Some naming }
-        ensures reply { result ≡ reply_of (setting self.old name.now filter) }
-        ensures state { self.new ≡ state_after self.old (setting self.old name.now filter) }
+        ensures { Does (setting self.old name.now filter) self.old self.new result }
     {
         let _sound = self.cross.is_sound();
         match self.cross.set_filter(naming.id, filter, steps) {
-            Ok(moved) => Reply::Changed(Change::Moved(moved)),
+            Ok(moved) => Ok(Reply::Changed(Change::Moved(moved))),
             Err(FilterRefusal::WrongKind { wanted, given }) => {
-                Reply::Refused(Refusal::WrongKind { wanted, given })
+                Ok(Reply::Refused(Refusal::WrongKind { wanted, given }))
             }
+            Err(FilterRefusal::OutOfMemory) => Err(OutOfMemory),
             // The dimension of a name is there.
             Err(FilterRefusal::NoDimension { .. }) => unreachable!(),
         }

@@ -1,7 +1,7 @@
 //! Names in order of creation.
-ghost use Rattle.std.specs.Prelude.{◌≡◌, ◌<◌, ◌∷◌, [], ◌++◌, None, OnErr, OnOk, length, option_copied, option_map, remove, slice_get, true};
+ghost use Rattle.std.specs.Prelude.{◌≡◌, ◌<◌, ◌∷◌, [], ◌++◌, List, None, OnErr, OnOk, length, option_copied, option_map, remove, slice_get, true};
 ghost use Rattle.xf_session.specs.Command.{without_name};
-ghost use Rattle.xf_session.specs.State.{AreDistinctNames, named, names_in};
+ghost use Rattle.xf_session.specs.State.{AreDistinctNames, Name, named, names_in};
 
 use indexmap::IndexMap;
 use std::alloc::Global;
@@ -70,6 +70,16 @@ impl<T: Drop> Names<T> {
         let name = String::from_str(alloc, name.as_str())?;
         self.by_name.insert(name, value)?;
         Ok(())
+    }
+
+    /// Lets the last name stand for another value. Takes no memory.
+    pub fn set_last(&mut self, value: T)
+        ensures { (names : List (Name × T)) → (name : Name) → (old : T) → self.old ≡ names ++ (name, old) ∷ [] → self.new ≡ names ++ (name, value) ∷ [] }
+    {
+        let place = self.by_name.len().saturating_sub(1);
+        if let Some(last) = self.by_name.get_index_mut(place) {
+            *last = value;
+        }
     }
 
     /// Takes a name away.

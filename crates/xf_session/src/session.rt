@@ -1,24 +1,25 @@
-//! A session: a crossfilter whose dimensions and groups have names.
-ghost use Rattle.std.specs.Prelude.{◌≡◌, IfOk, None, length, option_map, slice_get, true};
+//! A session: a crossfilter whose dimensions, groups and wholes have names.
+ghost use Rattle.std.specs.Prelude.{◌≡◌, None, length, option_map, slice_get, true};
 ghost use Rattle.xf_access.specs.Stock.{fits_columns, keys_of_row};
 ghost use Rattle.xf_engine.specs.State.{IsState};
 ghost use Rattle.xf_engine.specs.declared.ids.DimensionId.{DimensionId};
 ghost use Rattle.xf_filter.specs.Stock.{stock_keys};
+ghost use Rattle.xf_reduce.specs.StockReducer.{stock_field_count, stock_fits};
 ghost use Rattle.xf_session.specs.State.{IsSession, Name, kind_of, named};
-ghost use Rattle.xf_session.specs.Command.{form_named, group_entries, group_form};
+ghost use Rattle.xf_session.specs.Command.{form_named, group_form};
 
 use crate::names::Names;
 use crate::naming::Naming;
 use std::alloc::Global;
 use std::marker::Model;
-use std::sync::ledger::Ledger;
 use xf_access::{StockAccessor, StockRounding};
-use xf_base::{AtomForm, KeyForm, OutOfMemory, Steps};
-use xf_engine::{Cross, DimensionId, GroupId, GroupListRefusal, KeyNumber};
+use xf_base::{AtomForm, KeyForm};
+use xf_engine::{Cross, DimensionId, GroupId, WholeId};
 use xf_filter::{Filter, StockPredicate};
+use xf_reduce::StockReducer;
 
-/// A crossfilter over the stock of accessors, roundings and predicates.
-pub type StockCross = Cross<StockAccessor, StockRounding, StockPredicate>;
+/// A crossfilter over the stock of accessors, roundings, predicates and reducers.
+pub type StockCross = Cross<StockAccessor, StockRounding, StockPredicate, StockReducer>;
 
 /// A filter whose predicates are those of the stock.
 pub type StockFilter = Filter<StockPredicate>;
@@ -30,7 +31,7 @@ pub struct Session {
     pub(crate) cross: StockCross,
     pub(crate) dimensions: Names<Naming>,
     pub(crate) groups: Names<GroupId>,
-    pub(crate) wholes: Names<()>,
+    pub(crate) wholes: Names<WholeId>,
 }
 
 impl Model for Session {
@@ -72,6 +73,13 @@ impl Session {
         self.groups.get(name).copied()
     }
 
+    /// The id of the whole of a name.
+    pub fn whole(&self, name: &str) -> Option<WholeId>
+        ensures { result ≡ named self.now.wholes name.now }
+    {
+        self.wholes.get(name).copied()
+    }
+
     /// The dimension at a place in order of creation, from 0 on: its name and its id.
     pub fn dimension_at(&self, place: usize) -> Option<(&str, DimensionId)>
         ensures { option_map {U = Name × DimensionId} (λ at. (at.0.now, at.1)) result
@@ -93,12 +101,12 @@ impl Session {
         }
     }
 
-    /// The name of the whole at a place in order of creation, from 0 on. Each counts.
-    pub fn whole_at(&self, place: usize) -> Option<&str>
-        ensures { option_map (λ name. name.now) result ≡ slice_get self.now.wholes place }
+    /// The whole at a place in order of creation, from 0 on: its name and its id.
+    pub fn whole_at(&self, place: usize) -> Option<(&str, WholeId)>
+        ensures { option_map (λ at. (at.0.now, at.1)) result ≡ slice_get self.now.wholes place }
     {
         match self.wholes.at(place) {
-            Some((name, _)) => Some(name),
+            Some((name, id)) => Some((name, *id)),
             None => None,
         }
     }
@@ -140,26 +148,11 @@ impl Session {
         }
     }
 
-    /// The entries of a group, keys ascending; none where no group has the id.
-    pub fn group_entries<L: Ledger>(
-        &self,
-        id: GroupId,
-        steps: &mut Steps<L>,
-    ) -> Result<Vec<KeyNumber>, OutOfMemory>
-        ensures { IfOk result (λ entries. entries.items ≡ group_entries self.now id.0) }
-    {
-        match self.cross.group_all(id, steps) {
-            Ok(entries) => Ok(entries),
-            Err(GroupListRefusal::OutOfMemory) => Err(OutOfMemory),
-            Err(GroupListRefusal::NoGroup { .. }) => Ok(Vec::new(self.alloc)),
-        }
-    }
-
     /// True of every session: the clause tells a proof what each of them meets.
     pub fn is_sound(&self) -> bool
         ensures answer { result ≡ true }
         ensures names { IsSession self.now }
-        ensures cross { IsState keys_of_row fits_columns kind_of stock_keys self.now.cross }
+        ensures cross { IsState keys_of_row fits_columns kind_of stock_keys stock_fits stock_field_count self.now.cross }
     {
         self.cross.is_sound()
     }

@@ -12,7 +12,8 @@ use std::alloc::Global;
 use std::marker::Brand;
 use std::sync::ledger::{Blank, Ledger};
 use xf_base::{Limits, OutOfMemory, RowList, Schema, Steps, Text};
-use xf_engine::{AddRefusal, Cross};
+use xf_engine::{AddRefusal, Cross, WholeRefusal};
+use xf_reduce::{Simple, StockReducer};
 use xf_reply::Refusal;
 use xf_script::{AccessorWords, ReducerWords, RoundingWords, SimpleWords};
 use xf_sheet::{Sheet, SheetRefusal, read_sheet};
@@ -54,20 +55,30 @@ impl Session {
         }
     }
 
-    /// A session of a schema, without records, dimensions and groups. The whole `all` counts.
-    fn empty(alloc: Global, schema: Schema, limits: Limits) -> Result<Session, OutOfMemory>
+    /// A session of a schema, without records, dimensions and groups. Its one whole, `all`, counts.
+    fn empty<L: Ledger>(
+        alloc: Global,
+        schema: Schema,
+        limits: Limits,
+        steps: &mut Steps<L>,
+    ) -> Result<Session, OutOfMemory>
         requires { 33 ≤ limits.groups }
         ensures { IfOk result (λ session. session ≡ empty_session schema limits) }
     {
-        let mut wholes = Names::new(alloc);
-        wholes.push(alloc, &Text::of(alloc, "all")?, ())?;
-        Ok(Session {
+        let mut session = Session {
             alloc,
             cross: Cross::new(alloc, schema, limits),
             dimensions: Names::new(alloc),
             groups: Names::new(alloc),
-            wholes,
-        })
+            wholes: Names::new(alloc),
+        };
+        let counts = StockReducer::One(Simple::Count);
+        match session.push_whole(&Text::of(alloc, "all")?, counts, steps) {
+            Ok(()) => Ok(session),
+            Err(WholeRefusal::OutOfMemory) => Err(OutOfMemory),
+            // There is room for one.
+            Err(WholeRefusal::TooManyGroups { .. }) => unreachable!(),
+        }
     }
 
     /// Adds a dimension and a group for each column, in order.
@@ -98,7 +109,7 @@ impl Session {
         let words = AccessorWords::Column(name.copy(alloc)?);
         self.add_dimension(name.copy(alloc)?, words, steps)?;
         let counts = ReducerWords::One(SimpleWords::Count);
-        self.add_group(name.copy(alloc)?, name, RoundingWords::Same, &counts, steps)?;
+        self.add_group(name.copy(alloc)?, name, RoundingWords::Same, counts, steps)?;
         Ok(())
     }
 
@@ -149,7 +160,7 @@ fn session_counted<L: Ledger>(
 {
     let mut steps = Steps::<L>::new(blank);
     let Sheet { schema, rows } = sheet;
-    let mut session = Session::empty(alloc, schema, limits)?;
+    let mut session = Session::empty(alloc, schema, limits, &mut steps)?;
     session.add_columns(&mut steps)?;
     session.put_rows(rows, &mut steps)?;
     Ok(session)

@@ -52,13 +52,27 @@ fn depot_of(alloc: Global) -> Result<MemoryDepot, Fail> {
     Ok(MemoryDepot::new(held, Vec::new(alloc)))
 }
 
-/// What is written for the lines of a session on a board, without the views behind the accepted ones; for a board that is
-/// refused, the words of its cause.
+/// Appends each whole: its name and its fields.
+fn put_wholes(out: &mut Vec<u8>, session: &Session) -> Result<(), OutOfMemory> {
+    for place in 0..session.whole_count() {
+        if let Some((name, id)) = session.whole_at(place) {
+            out.extend_from_slice(b"whole ")?;
+            out.extend_from_slice(name.as_bytes())?;
+            session.put_whole(out, id)?;
+            out.push(b'\n')?;
+        }
+    }
+    Ok(())
+}
+
+/// What is written for the lines of a session on a board, without the views behind the accepted ones, and the wholes after
+/// the last line where they are asked for; for a board that is refused, the words of its cause.
 fn written<L: Ledger>(
     rt: &impl Abort,
     alloc: Global,
     board: &[u8],
     lines: &[u8],
+    wholes: bool,
     steps: &mut Steps<L>,
 ) -> Result<Vec<u8>, Fail> {
     let limits = low_limits();
@@ -81,13 +95,25 @@ fn written<L: Ledger>(
         }
         put_step(&mut out, number, &reply)?;
     }
+    if wholes {
+        put_wholes(&mut out, &session)?;
+    }
     Ok(out)
 }
 
 /// Runs each session on its board, and compares what is written. A case is a name, a board, the lines of a session, and what
 /// is written for its steps.
 pub(crate) fn see(rt: &impl Abort, alloc: Global, cases: &'static [Case]) -> Result<(), Fail> {
-    see_counted::<Brand>(rt, alloc, cases, Blank::new(1))
+    see_counted::<Brand>(rt, alloc, cases, false, Blank::new(1))
+}
+
+/// The same, with the wholes behind the last step.
+pub(crate) fn see_wholes(
+    rt: &impl Abort,
+    alloc: Global,
+    cases: &'static [Case],
+) -> Result<(), Fail> {
+    see_counted::<Brand>(rt, alloc, cases, true, Blank::new(1))
 }
 
 /// The same, in the ledger that the blank becomes.
@@ -95,6 +121,7 @@ fn see_counted<L: Ledger>(
     rt: &impl Abort,
     alloc: Global,
     cases: &'static [Case],
+    wholes: bool,
     blank: Blank,
 ) -> Result<(), Fail>
     requires name { blank.name ≡ L.name }
@@ -103,7 +130,7 @@ fn see_counted<L: Ledger>(
 {
     let mut steps = Steps::<L>::new(blank);
     for (name, board, lines, want) in cases {
-        let found = written(rt, alloc, board, lines, &mut steps)?;
+        let found = written(rt, alloc, board, lines, wholes, &mut steps)?;
         let found = str::from_utf8(found.as_slice())?;
         assert_eq!(rt; found, *want, "{name}");
     }

@@ -52,7 +52,7 @@ static FILTERS: [Case; 3] = [
     ),
 ];
 
-/// Dimensions and groups: what is not built, then the new name, then the old ones, then what does not fit, then the limits.
+/// Dimensions, groups and wholes: the new name, then the old ones, then what does not fit, then the limits.
 static THINGS: [Case; 6] = [
     (
         "a dimension whose name is taken",
@@ -73,16 +73,16 @@ static THINGS: [Case; 6] = [
         "step 1 refused 24 too many entries 6 3 8\nstep 2 refused 11 no column z\n",
     ),
     (
-        "a group of what is not built, of a name that is taken, of no dimension, of a rounding that does not apply",
+        "a group of a name that is taken, of no dimension, of a rounding that does not apply, of no column",
         BOARD,
-        b"group a of z month sum a\ngroup a of z month count\ngroup g of z month count\ngroup g of a month count\ngroup g of a letters 2 count\ngroup g of a floor 2 both count count",
-        "step 1 refused 99 not built\nstep 2 refused 10 name taken a\nstep 3 refused 6 no dimension z\nstep 4 refused 13 wrong rounding\nstep 5 refused 13 wrong rounding\nstep 6 refused 99 not built\n",
+        b"group a of z month sum a\ngroup g of z month sum z\ngroup g of a month sum z\ngroup g of a letters 2 count\ngroup g of a floor 2 both sum z spread y\ngroup g of a same both count sum y\ngroup g of a floor 2 both count count",
+        "step 1 refused 10 name taken a\nstep 2 refused 6 no dimension z\nstep 3 refused 13 wrong rounding\nstep 4 refused 13 wrong rounding\nstep 5 refused 11 no column z\nstep 6 refused 11 no column y\nstep 7 ok\n",
     ),
     (
-        "what needs a reducer is not built, but its words are read",
+        "wholes, orders and tops: names, then columns and fields",
         BOARD,
-        b"whole w count\nwhole all count\norder a 0\norder z natural\ngrouptop a 1\ndispose whole all\nwhole w\norder a 256\ngrouptop a\ndispose whole",
-        "step 1 refused 99 not built\nstep 2 refused 99 not built\nstep 3 refused 99 not built\nstep 4 refused 99 not built\nstep 5 refused 99 not built\nstep 6 refused 99 not built\nstep 7 refused 4 bad word 3\nstep 8 refused 4 bad word 3\nstep 9 refused 4 bad word 3\nstep 10 refused 4 bad word 3\n",
+        b"whole all sum z\nwhole w both sumcount y spread z\nwhole w\norder z 0\norder a 1\norder a 255\norder a 256\norder a 0\ngrouptop z 1\ngrouptop a\ndispose whole w\ndispose whole\ndispose whole all\ndispose whole all",
+        "step 1 refused 10 name taken all\nstep 2 refused 11 no column y\nstep 3 refused 4 bad word 3\nstep 4 refused 7 no group z\nstep 5 refused 14 no field 1\nstep 6 refused 14 no field 255\nstep 7 refused 4 bad word 3\nstep 8 ok\nstep 9 refused 7 no group z\nstep 10 refused 4 bad word 3\nstep 11 refused 8 no whole w\nstep 12 refused 4 bad word 3\nstep 13 ok\nstep 14 refused 8 no whole all\n",
     ),
     (
         "no group",
@@ -116,7 +116,7 @@ step 36 ok
 ",
     ),
     (
-        "32 groups beside the whole, after which a rounding that does not apply is told first",
+        "32 groups beside the whole, after which a rounding that does not apply and a column that is not there are told first",
         BOARD,
         b"group 3 of a same count\ngroup 4 of a same count\ngroup 5 of a same count\ngroup 6 of a same count\ngroup 7 of a same count
 group 8 of a same count\ngroup 9 of a same count\ngroup 10 of a same count\ngroup 11 of a same count\ngroup 12 of a same count
@@ -124,15 +124,19 @@ group 13 of a same count\ngroup 14 of a same count\ngroup 15 of a same count\ngr
 group 18 of a same count\ngroup 19 of a same count\ngroup 20 of a same count\ngroup 21 of a same count\ngroup 22 of a same count
 group 23 of a same count\ngroup 24 of a same count\ngroup 25 of a same count\ngroup 26 of a same count\ngroup 27 of a same count
 group 28 of a same count\ngroup 29 of a same count\ngroup 30 of a same count\ngroup 31 of a same count\ngroup 32 of a same count
-group 33 of a same count\ngroup 33 of a year count\ngroup 33 of z year count\ndispose group 3\ngroup 33 of b same count",
+group 33 of a same count\ngroup 33 of a year count\ngroup 33 of z year count\nwhole w count\nwhole w sum z\ndispose group 3\ngroup 33 of b same count\ndispose whole all\nwhole w count",
         "step 1 ok\nstep 2 ok\nstep 3 ok\nstep 4 ok\nstep 5 ok\nstep 6 ok\nstep 7 ok\nstep 8 ok\nstep 9 ok\nstep 10 ok
 step 11 ok\nstep 12 ok\nstep 13 ok\nstep 14 ok\nstep 15 ok\nstep 16 ok\nstep 17 ok\nstep 18 ok\nstep 19 ok\nstep 20 ok
 step 21 ok\nstep 22 ok\nstep 23 ok\nstep 24 ok\nstep 25 ok\nstep 26 ok\nstep 27 ok\nstep 28 ok\nstep 29 ok\nstep 30 ok
 step 31 refused 26 too many groups 33
 step 32 refused 13 wrong rounding
 step 33 refused 6 no dimension z
-step 34 ok
-step 35 ok
+step 34 refused 26 too many groups 33
+step 35 refused 11 no column z
+step 36 ok
+step 37 ok
+step 38 ok
+step 39 ok
 ",
     ),
 ];

@@ -1,5 +1,5 @@
 //! What accepted lines give, and that a refused one changes nothing.
-use crate::case::{BOARD, Case, see};
+use crate::case::{BOARD, Case, see, see_wholes};
 use std::test::Fail;
 
 /// Filters and toggles: how much each moves, and which records pass then.
@@ -108,6 +108,42 @@ static NAMES: [Case; 3] = [
     ),
 ];
 
+/// Groups and wholes of several fields.
+static FIELDS: [Case; 3] = [
+    (
+        "both reducers in a group, under the other dimension's filter, and in its tops and values",
+        BOARD,
+        b"group x of a same both sumcount b spread b\ngroups x\ngrouptop x 1\nfilter b range 10 30\ngrouptop x 9\norder x 1\ngrouptop x 2\norder x natural\ngrouptop x 1\nvalue x 2\nvalue x 3\norder x 6\norder x 7",
+        "step 1 ok
+step 2 ok\n  1 10 1 10 1 10 10 10\n  2 50 2 25 2 20 30 20
+step 3 ok\n  2 50 2 25 2 20 30 20
+step 4 ok moved 1
+step 5 ok\n  2 20 1 20 1 20 20 20\n  1 10 1 10 1 10 10 10
+step 6 ok
+step 7 ok\n  1 10 1 10 1 10 10 10\n  2 20 1 20 1 20 20 20
+step 8 ok
+step 9 ok\n  2 20 1 20 1 20 20 20
+step 10 ok\n  2 20 1 20 1 20 20 20
+step 11 ok\n  none
+step 12 ok
+step 13 refused 14 no field 7
+whole all 2
+",
+    ),
+    (
+        "wholes see every filter, and stand in order of creation",
+        BOARD,
+        b"whole s sum b\nfilter b range 10 30\nwhole t both sumsquares b spread a\nfilter a exact 2",
+        "step 1 ok\nstep 2 ok moved 1\nstep 3 ok\nstep 4 ok moved 1\nwhole all 1\nwhole s 20\nwhole t 400 20 1 1 2 2 2\n",
+    ),
+    (
+        "wholes of records that come and go, and one that goes and comes again",
+        BOARD,
+        b"whole s both sumcount b spread a\nfilter b range 20 30\nremove passing\nclear b\nadd -4 -11\ndispose whole all\nwhole all sum a",
+        "step 1 ok\nstep 2 ok moved 2\nstep 3 ok removed 1\nstep 4 ok moved 2\nstep 5 ok added 1\nstep 6 ok\nstep 7 ok\nwhole s 29 3 9 3 -4 2 1\nwhole all -1\n",
+    ),
+];
+
 #[test]
 fn filters(rt: HostRuntime) -> Result<(), Fail> {
     see(&rt, rt.alloc(), &FILTERS)
@@ -126,4 +162,9 @@ fn lists(rt: HostRuntime) -> Result<(), Fail> {
 #[test]
 fn names(rt: HostRuntime) -> Result<(), Fail> {
     see(&rt, rt.alloc(), &NAMES)
+}
+
+#[test]
+fn fields(rt: HostRuntime) -> Result<(), Fail> {
+    see_wholes(&rt, rt.alloc(), &FIELDS)
 }

@@ -1,23 +1,25 @@
 //! Dimensions that come and go.
 ghost use Rattle.std.specs.Prelude.{◌≡◌, ◌⊎◌, ◌<◌, ◌^◌, true, length, IfErr, IfOk, OnErr, OnOk, Some, None};
 
-use crate::counts::moved_count;
 use crate::cross::Cross;
 use crate::dimension::{Dimension, free_dimension_id};
 use crate::dimension_refusal::DimensionRefusal;
+use crate::dispose_refusal::DisposeRefusal;
 use crate::entries::{entry_count, keys_of_rows};
-use crate::group::drop_groups_of;
-use crate::ids::{DimensionId, NoDimension};
+use crate::grouping::drop_groups_of;
+use crate::ids::DimensionId;
+use crate::refilter::refilter_at;
 use std::sync::ledger::Ledger;
 use xf_access::{Accessor, Rounding};
 use xf_base::Steps;
 use xf_filter::{Filter, Predicate};
+use xf_reduce::Reducer;
 
-impl<A: Accessor, G: Rounding, P: Predicate> Cross<A, G, P> {
+impl<A: Accessor, G: Rounding, P: Predicate, R: Reducer> Cross<A, G, P, R> {
     ghost use Rattle.xf_engine.specs.Answers.{moved_by};
     ghost use Rattle.xf_engine.specs.Changes.{with_dimension, without_dimension};
-    ghost use Rattle.xf_engine.specs.Refusals.{dimension_refusal_of, no_dimension, unless_none};
-    ghost use Rattle.xf_engine.specs.State.{IsFreeId, dimension_ids};
+    ghost use Rattle.xf_engine.specs.Refusals.{dimension_refusal_of};
+    ghost use Rattle.xf_engine.specs.State.{IsFreeId, dimension_ids, dimension_named};
     ghost use Rattle.xf_filter.specs.declared.filter.Filter.TheVariants.{All};
 
     /// Adds a dimension, without a filter. Its id is the least that no live dimension has. The accessor is asked for the
@@ -60,16 +62,26 @@ impl<A: Accessor, G: Rounding, P: Predicate> Cross<A, G, P> {
         &mut self,
         id: DimensionId,
         steps: &mut Steps<L>,
-    ) -> Result<u64, NoDimension>
-        ensures moved { result ≡ unless_none (no_dimension id.0) (moved_by A.keys_of P.says_to self.old id.0 All) }
-        ensures state { self.new ≡ without_dimension self.old id.0 }
+    ) -> Result<u64, DisposeRefusal>
+        ensures moved { IfOk result (λ moved. Some moved ≡ moved_by A.keys_of P.says_to self.old id.0 All) }
+        ensures ok { OnOk result (self.new ≡ without_dimension self.old id.0) }
+        ensures refused { IfErr result (λ cause. (cause ≡ DisposeRefusal.OutOfMemory)
+            ⊎ ((cause ≡ DisposeRefusal.NoDimension id.0) × (dimension_named self.old id.0 ≡ None))) }
+        ensures err { OnErr result (self.new ≡ self.old) }
     {
         let Some(place) = self.place_of(id) else {
-            return Err(NoDimension { id: id.0 });
+            return Err(DisposeRefusal::NoDimension { id: id.0 });
         };
-        steps.tick_by(self.table.len() as u64);
-        let dimension = &self.dimensions[place];
-        let moved = moved_count(&dimension.keys, &dimension.filter, &Filter::All);
+        let moved = refilter_at(
+            self.alloc,
+            &self.table,
+            &mut self.dimensions,
+            place,
+            Filter::All,
+            &mut self.groups,
+            &mut self.wholes,
+            steps,
+        )?;
         self.dimensions.remove(place);
         drop_groups_of(&mut self.groups, id);
         Ok(moved)

@@ -1,5 +1,5 @@
 //! Filters that are set, and the records that pass them.
-ghost use Rattle.std.specs.Prelude.{◌≡◌, ◌<◌, ◌^◌, IfErr, IfOk, OnErr, OnOk, Some, None, map, sum_by};
+ghost use Rattle.std.specs.Prelude.{◌≡◌, ◌⊎◌, ◌<◌, ◌^◌, IfErr, IfOk, OnErr, OnOk, Some, None, map, sum_by};
 ghost use Rattle.xf_engine.specs.Held.{held_moved, held_unfiltered, most_moved};
 ghost use Rattle.xf_filter.specs.declared.filter.Filter.TheVariants.{All};
 
@@ -8,21 +8,24 @@ use crate::cross::Cross;
 use crate::dimension::Dimension;
 use crate::events::one_more;
 use crate::filter_refusal::FilterRefusal;
+use crate::folding::{Counting, fold_held, put};
 use crate::ids::{DimensionId, NoDimension};
+use crate::refilter::refilter_at;
 use std::sync::ledger::Ledger;
 use xf_access::{Accessor, Rounding};
-use xf_base::Steps;
+use xf_base::{OutOfMemory, Steps};
 use xf_filter::{Filter, Predicate};
+use xf_reduce::Reducer;
 
-impl<A: Accessor, G: Rounding, P: Predicate> Cross<A, G, P> {
-    ghost use Rattle.xf_engine.specs.Answers.{filter_named, moved_by, moved_by_clearing, passing_count, whole_count};
+impl<A: Accessor, G: Rounding, P: Predicate, R: Reducer> Cross<A, G, P, R> {
+    ghost use Rattle.xf_engine.specs.Answers.{filter_named, moved_by, moved_by_clearing, passing_count};
     ghost use Rattle.xf_engine.specs.Changes.{with_filter, without_filters};
     ghost use Rattle.xf_engine.specs.Refusals.{filter_refusal_of, no_dimension};
     ghost use Rattle.xf_engine.specs.State.{dimension_named, dimension_place};
 
     /// Sets a filter on a dimension in place of the one that was set. Gives how much it moves: for how many keys of
     /// records exactly one of the two filters holds, and how many records without keys come or go. A record without keys
-    /// passes only under "all". A filter with a key that is not of the dimension's kind is refused. Takes no memory.
+    /// passes only under "all". A filter with a key that is not of the dimension's kind is refused.
     pub fn set_filter<L: Ledger>(
         &mut self,
         id: DimensionId,
@@ -32,13 +35,20 @@ impl<A: Accessor, G: Rounding, P: Predicate> Cross<A, G, P> {
         ensures moved { IfOk result (λ moved. Some moved ≡ moved_by A.keys_of P.says_to self.old id.0 filter) }
         ensures ok { OnOk result (self.new ≡ with_filter self.old id.0 filter) }
         ensures accepted { OnOk result (filter_refusal_of A.kind_of P.keys_in self.old id.0 filter ≡ None) }
-        ensures refused { IfErr result (λ cause. filter_refusal_of A.kind_of P.keys_in self.old id.0 filter ≡ Some cause) }
+        ensures refused { IfErr result (λ cause. (cause ≡ FilterRefusal.OutOfMemory) ⊎ (filter_refusal_of A.kind_of P.keys_in self.old id.0 filter ≡ Some cause)) }
         ensures err { OnErr result (self.new ≡ self.old) }
     {
         let place = self.fitting_place(id, &filter)?;
-        steps.tick_by(self.table.len() as u64);
-        let dimension = &mut self.dimensions[place];
-        let moved = dimension.refilter(filter);
+        let moved = refilter_at(
+            self.alloc,
+            &self.table,
+            &mut self.dimensions,
+            place,
+            filter,
+            &mut self.groups,
+            &mut self.wholes,
+            steps,
+        )?;
         self.events.filtered = one_more(self.events.filtered);
         Ok(moved)
     }
@@ -63,14 +73,25 @@ impl<A: Accessor, G: Rounding, P: Predicate> Cross<A, G, P> {
         }
     }
 
-    /// Takes the filter of every dimension away. Gives how much that moves in all of them together. Takes no memory.
-    pub fn clear_all<L: Ledger>(&mut self, steps: &mut Steps<L>) -> u64
-        ensures moved { result ≡ moved_by_clearing A.keys_of P.says_to self.old }
-        ensures state { self.new ≡ without_filters self.old }
+    /// Takes the filter of every dimension away. Gives how much that moves in all of them together.
+    pub fn clear_all<L: Ledger>(&mut self, steps: &mut Steps<L>) -> Result<u64, OutOfMemory>
+        ensures moved { IfOk result (λ moved. moved ≡ moved_by_clearing A.keys_of P.says_to self.old) }
+        ensures state { OnOk result (self.new ≡ without_filters self.old) }
+        ensures err { OnErr result (self.new ≡ self.old) }
     {
+        let folded = fold_held(
+            self.alloc,
+            &self.table,
+            self.dimensions.as_slice(),
+            self.groups.as_slice(),
+            self.wholes.as_slice(),
+            &Counting::Every,
+            steps,
+        )?;
         let moved = clear_each(&mut self.dimensions, steps);
+        put(&mut self.groups, &mut self.wholes, folded);
         self.events.filtered = one_more(self.events.filtered);
-        moved
+        Ok(moved)
     }
 
     /// The filter that is set on a dimension.
@@ -84,10 +105,9 @@ impl<A: Accessor, G: Rounding, P: Predicate> Cross<A, G, P> {
         }
     }
 
-    /// How many records pass every dimension, which is the value of the whole that counts. Costs a step for each record.
+    /// How many records pass every dimension.
     pub fn passing_count<L: Ledger>(&self, steps: &mut Steps<L>) -> u64
-        ensures passing { result ≡ passing_count A.keys_of P.says_to self.now }
-        ensures whole { result ≡ whole_count A.keys_of P.says_to self.now }
+        ensures { result ≡ passing_count A.keys_of P.says_to self.now }
     {
         passing_count(
             self.dimensions.as_slice(),

@@ -10,8 +10,9 @@ use std::sync::ledger::Ledger;
 use xf_access::{Accessor, Rounding};
 use xf_base::Steps;
 use xf_filter::Predicate;
+use xf_reduce::Reducer;
 
-impl<A: Accessor, G: Rounding, P: Predicate> Cross<A, G, P> {
+impl<A: Accessor, G: Rounding, P: Predicate, R: Reducer> Cross<A, G, P, R> {
     ghost use Rattle.xf_engine.specs.Answers.{all_filtered_of, bottom_of, top_of};
     ghost use Rattle.xf_engine.specs.Refusals.{ignored_refusal_of};
     ghost use Rattle.xf_engine.specs.State.{dimension_named, id_numbers};

@@ -1,24 +1,23 @@
 //! Records that are added.
 ghost use Rattle.std.specs.Prelude.{◌≡◌, ◌⊎◌, ◌+◌, ◌≤◌, IfErr, OnErr, OnOk, Some, None, length, map, sum_by};
-ghost use Rattle.std.specs.List.{AllByRecursion};
 ghost use Rattle.xf_base.specs.declared.limits.TheConstants.Limits.{DIMENSIONS};
-ghost use Rattle.xf_engine.specs.Held.{HoldsKeysOf, IsEntryRefusal, held_count, more_count, with_keys_of};
-ghost use Rattle.xf_table.specs.Append.{refusal_of};
-ghost use Rattle.xf_table.specs.Table.{with_rows as table_with_rows};
+ghost use Rattle.xf_engine.specs.Held.{HoldEach, IsEntryRefusal, held_count, more_count, with_keys_of};
 
 use crate::add_refusal::AddRefusal;
 use crate::cross::Cross;
 use crate::dimension::Dimension;
 use crate::entries::{add_keys, entry_count, keep_keys};
 use crate::events::one_more;
+use crate::fold::Rows;
+use crate::folding::{Counting, fold_all, put};
 use std::alloc::Global;
 use std::sync::ledger::Ledger;
 use xf_access::{Accessor, Rounding};
 use xf_base::{RowList, Steps};
 use xf_filter::Predicate;
-use xf_table::Table;
+use xf_reduce::Reducer;
 
-impl<A: Accessor, G: Rounding, P: Predicate> Cross<A, G, P> {
+impl<A: Accessor, G: Rounding, P: Predicate, R: Reducer> Cross<A, G, P, R> {
     ghost use Rattle.xf_engine.specs.Changes.{with_rows};
     ghost use Rattle.xf_engine.specs.Refusals.{add_refusal_of};
 
@@ -36,36 +35,51 @@ impl<A: Accessor, G: Rounding, P: Predicate> Cross<A, G, P> {
         if let Some(cause) = self.table.refusal_of(&rows) {
             return Err(cause.into());
         }
-        steps.tick_by(rows.len() as u64);
-        if let Err(cause) = grow(self.alloc, &mut self.table, &mut self.dimensions, rows) {
-            return Err(cause);
+        let count = self.table.len();
+        let limit = self.table.limits().entries;
+        add_entries(self.alloc, &mut self.dimensions, count, limit, &rows)?;
+        let folded = fold_all(
+            self.alloc,
+            self.dimensions.as_slice(),
+            self.groups.as_slice(),
+            self.wholes.as_slice(),
+            &Rows {
+                held: self.table.rows(steps),
+                added: &rows,
+            },
+            &Counting::Passing,
+            steps,
+        );
+        let Ok(folded) = folded else {
+            keep_keys(&mut self.dimensions, count);
+            return Err(AddRefusal::OutOfMemory);
+        };
+        if self.table.push(rows).is_err() {
+            keep_keys(&mut self.dimensions, count);
+            return Err(AddRefusal::OutOfMemory);
         }
+        put(&mut self.groups, &mut self.wholes, folded);
         self.events.added = one_more(self.events.added);
         Ok(())
     }
 }
 
-/// Puts the keys of rows into each dimension and the rows into the table, or leaves both as they were where the entries
-/// would be too many or memory is refused.
-fn grow<A: Accessor, P: Drop>(
+/// Puts the keys of rows into each dimension, or leaves all as they were where there would be too many or memory is refused.
+fn add_entries<A: Accessor, P: Drop>(
     alloc: Global,
-    table: &mut Table,
     dimensions: &mut [Dimension<A, P>],
-    rows: RowList,
+    count: usize,
+    limit: u64,
+    rows: &RowList,
 ) -> Result<(), AddRefusal>
-    requires taken { refusal_of table.old rows ≡ None }
-    requires keys { AllByRecursion (HoldsKeysOf A.keys_of table.old.rows) dimensions.old }
+    requires held { HoldEach count dimensions.old }
     requires few { length dimensions.old ≤ DIMENSIONS }
-    requires within { sum_by held_count dimensions.old ≤ table.old.limits.entries }
-    ensures rows { OnOk result (table.new ≡ table_with_rows table.old rows) }
-    ensures keys { OnOk result (dimensions.new ≡ map (with_keys_of A.keys_of rows) dimensions.old) }
-    ensures room { OnOk result (sum_by held_count dimensions.old + more_count A.keys_of rows dimensions.old ≤ table.old.limits.entries) }
-    ensures same_rows { OnErr result (table.new ≡ table.old) }
+    requires within { sum_by held_count dimensions.old ≤ limit }
+    ensures keys { OnOk result (dimensions.new ≡ map (with_keys_of A.keys_of rows.now) dimensions.old) }
+    ensures room { OnOk result (sum_by held_count dimensions.old + more_count A.keys_of rows.now dimensions.old ≤ limit) }
     ensures same_keys { OnErr result (dimensions.new ≡ dimensions.old) }
-    ensures refused { IfErr result (IsEntryRefusal table.old.limits.entries (sum_by held_count dimensions.old) (more_count A.keys_of rows dimensions.old)) }
+    ensures refused { IfErr result (IsEntryRefusal limit (sum_by held_count dimensions.old) (more_count A.keys_of rows.now dimensions.old)) }
 {
-    let count = table.len();
-    let limit = table.limits().entries;
     let have = entry_count(dimensions);
     if add_keys(alloc, dimensions, count, rows.as_slice()).is_err() {
         keep_keys(dimensions, count);
@@ -75,10 +89,6 @@ fn grow<A: Accessor, P: Drop>(
     if more > limit - have {
         keep_keys(dimensions, count);
         return Err(AddRefusal::TooManyEntries { have, more, limit });
-    }
-    if table.push(rows).is_err() {
-        keep_keys(dimensions, count);
-        return Err(AddRefusal::OutOfMemory);
     }
     Ok(())
 }

@@ -4,6 +4,7 @@ ghost use Rattle.std.specs.Prelude.{◌≡◌, ◌⊎◌, ◌+◌, IfErr, IfOk, 
 use crate::cross::Cross;
 use crate::entries::retain_keys;
 use crate::events::one_more;
+use crate::folding::{Counting, fold_held, put};
 use crate::ids::DimensionId;
 use crate::marks::{marks_under, passing_marks};
 use crate::remove_refusal::RemoveRefusal;
@@ -11,8 +12,9 @@ use std::sync::ledger::Ledger;
 use xf_access::{Accessor, Rounding};
 use xf_base::{Gone, OutOfMemory, Steps};
 use xf_filter::{Filter, Predicate};
+use xf_reduce::Reducer;
 
-impl<A: Accessor, G: Rounding, P: Predicate> Cross<A, G, P> {
+impl<A: Accessor, G: Rounding, P: Predicate, R: Reducer> Cross<A, G, P, R> {
     ghost use Rattle.xf_engine.specs.Answers.{passing_count, passing_under};
     ghost use Rattle.xf_engine.specs.Changes.{without_passing, without_where};
     ghost use Rattle.xf_engine.specs.Held.{with_kept};
@@ -28,7 +30,7 @@ impl<A: Accessor, G: Rounding, P: Predicate> Cross<A, G, P> {
         steps.tick_by(count as u64);
         let marks = passing_marks(self.alloc, self.dimensions.as_slice(), count)?;
         let gone = Gone::of(self.alloc, marks)?;
-        Ok(self.remove(&gone))
+        self.remove(&gone, steps)
     }
 
     /// Removes the records that pass a dimension under a filter, whatever filters are set, which stay: so "all" removes
@@ -50,19 +52,30 @@ impl<A: Accessor, G: Rounding, P: Predicate> Cross<A, G, P> {
         steps.tick_by(self.table.len() as u64);
         let marks = marks_under(self.alloc, &self.dimensions[place].keys, filter)?;
         let gone = Gone::of(self.alloc, marks)?;
-        Ok(self.remove(&gone))
+        Ok(self.remove(&gone, steps)?)
     }
 
     /// Removes the records at places that are gone, with their keys, and tells how many those were.
-    fn remove(&mut self, gone: &Gone) -> u64
+    fn remove<L: Ledger>(&mut self, gone: &Gone, steps: &mut Steps<L>) -> Result<u64, OutOfMemory>
         requires { length gone.now ≡ length self.old.rows }
-        ensures count { result + length self.new.rows ≡ length self.old.rows }
-        ensures state { self.new ≡ with_kept gone.now self.old }
+        ensures count { IfOk result (λ count. count + length self.new.rows ≡ length self.old.rows) }
+        ensures state { OnOk result (self.new ≡ with_kept gone.now self.old) }
+        ensures err { OnErr result (self.new ≡ self.old) }
     {
+        let folded = fold_held(
+            self.alloc,
+            &self.table,
+            self.dimensions.as_slice(),
+            self.groups.as_slice(),
+            self.wholes.as_slice(),
+            &Counting::Staying(gone),
+            steps,
+        )?;
         let before = self.table.len();
         retain_keys(&mut self.dimensions, gone);
         self.table.retain(gone);
+        put(&mut self.groups, &mut self.wholes, folded);
         self.events.removed = one_more(self.events.removed);
-        (before - self.table.len()) as u64
+        Ok((before - self.table.len()) as u64)
     }
 }

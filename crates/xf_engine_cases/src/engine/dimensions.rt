@@ -2,7 +2,9 @@
 //! keys.
 ghost use Rattle.std.specs.Prelude.{◌≡◌, ◌<◌};
 
-use crate::engine::{RECORDS, StockCross, flights, rows_of, see_entries};
+use crate::engine::{
+    COUNT, RECORDS, StockCross, add_group, flights, numbers_of, rows_of, see_entries,
+};
 use crate::named::a_schema;
 use crate::told::{TEXT, TEXT_AND_CENTS, Told, WHOLE};
 use std::alloc::Global;
@@ -88,9 +90,9 @@ fn see_dimensions<L: Ledger>(rt: &impl Abort, alloc: Global, blank: Blank) -> Re
     for (accessor, rounding, entries, least, greatest) in &DIMENSIONS {
         assert!(rt; accessor.fits(cross.schema()));
         let dimension = cross.add_dimension(*accessor, &mut steps)?;
-        let group = cross.add_group(dimension, *rounding, &mut steps)?;
+        let group = add_group(rt, &mut cross, dimension, *rounding, COUNT, &mut steps)?;
         assert!(rt; cross.group_dimension(group) == Ok(dimension));
-        let found = cross.group_all(group, &mut steps)?;
+        let found = numbers_of(rt, &cross, group, 0, &mut steps)?;
         see_entries(rt, alloc, found.as_slice(), entries)?;
         let found = cross.bottom(dimension, 9, 0, &mut steps)?;
         assert_eq!(rt; found.as_slice(), *least);

@@ -2,7 +2,7 @@
 //! cleared.
 ghost use Rattle.std.specs.Prelude.{◌≡◌, ◌<◌};
 
-use crate::engine::{FLIGHTS, flights, rows_of, see_numbers};
+use crate::engine::{COUNT, FLIGHTS, add_group, flights, numbers_of, rows_of, see_numbers};
 use crate::named::{a_schema, filter_of, item_of};
 use crate::told::{TEXT, WHOLE};
 use std::alloc::Global;
@@ -65,7 +65,14 @@ fn see_predicate<P: Predicate, L: Ledger>(
     let accessor = StockAccessor::Column(1, WHOLE);
     assert!(rt; accessor.fits(cross.schema()));
     let delay = cross.add_dimension(accessor, &mut steps)?;
-    cross.add_group(delay, StockRounding::Same, &mut steps)?;
+    add_group(
+        rt,
+        &mut cross,
+        delay,
+        StockRounding::Same,
+        COUNT,
+        &mut steps,
+    )?;
     cross.add_records(rows_of(alloc, &FLIGHTS)?, &mut steps)?;
     let filter = Filter::Func(predicate);
     let copy = filter.copy(alloc)?;
@@ -108,7 +115,7 @@ fn see_toggles<L: Ledger>(rt: &impl Abort, alloc: Global, blank: Blank) -> Resul
         let filter = toggled(alloc, cross.filter(CARRIER)?, item)?;
         let moved = cross.set_filter(CARRIER, filter, &mut steps)?;
         assert!(rt; moved == *count && cross.passing_count(&mut steps) == *passing);
-        let found = cross.group_all(GroupId(0), &mut steps)?;
+        let found = numbers_of(rt, &cross, GroupId(0), 0, &mut steps)?;
         see_numbers(rt, found.as_slice(), delays)?;
     }
     assert!(rt; is_carrier(cross.filter(CARRIER)?, "UA"));
@@ -152,9 +159,9 @@ fn see_ignored<L: Ledger>(rt: &impl Abort, alloc: Global, blank: Blank) -> Resul
         assert!(rt; is_told(&cross.all_filtered(ignored, &mut steps), told));
     }
     let cleared = cross.clear_all(&mut steps);
-    assert!(rt; cleared == 3 && cross.passing_count(&mut steps) == 4);
+    assert!(rt; cleared == Ok(3) && cross.passing_count(&mut steps) == 4);
     let cleared = cross.clear_all(&mut steps);
-    assert!(rt; cleared == 0 && cross.events().filtered == 4);
+    assert!(rt; cleared == Ok(0) && cross.events().filtered == 4);
     assert!(rt; matches!(cross.filter(DELAY), Ok(Filter::All)));
     assert!(rt; matches!(cross.filter(DimensionId(2)), Err(NoDimension { id: 2 })));
     Ok(())

@@ -1,7 +1,9 @@
 //! Records that are removed: which are left, what passes and what groups count then, and what is refused.
 ghost use Rattle.std.specs.Prelude.{◌≡◌, ◌<◌};
 
-use crate::engine::{StockCross, TAGGED, flights, rows_of, see_entries};
+use crate::engine::{
+    COUNT, StockCross, TAGGED, add_group, flights, numbers_of, rows_of, see_entries,
+};
 use crate::named::{a_schema, filter_of};
 use crate::told::{TEXT, Told, WHOLE};
 use std::alloc::Global;
@@ -149,9 +151,9 @@ fn see_removal<L: Ledger>(
     let second = remove(alloc, &mut cross, seen.removed, steps)?;
     assert!(rt; first == seen.count && second == 0, "{}", seen.set);
     assert!(rt; cross.size() == seen.size && cross.passing_count(steps) == seen.passing);
-    let found = cross.group_all(GroupId(0), steps)?;
+    let found = numbers_of(rt, &cross, GroupId(0), 0, steps)?;
     see_entries(rt, alloc, found.as_slice(), seen.delays)?;
-    let found = cross.group_all(GroupId(1), steps)?;
+    let found = numbers_of(rt, &cross, GroupId(1), 0, steps)?;
     see_entries(rt, alloc, found.as_slice(), seen.carriers)?;
     let events = Events {
         added: 1,
@@ -217,11 +219,18 @@ fn see_tags<L: Ledger>(rt: &impl Abort, alloc: Global, blank: Blank) -> Result<(
         let accessor = StockAccessor::Tags(4);
         assert!(rt; accessor.fits(cross.schema()));
         let dimension = cross.add_dimension(accessor, &mut steps)?;
-        let group = cross.add_group(dimension, StockRounding::Same, &mut steps)?;
+        let group = add_group(
+            rt,
+            &mut cross,
+            dimension,
+            StockRounding::Same,
+            COUNT,
+            &mut steps,
+        )?;
         let filter = filter_of(alloc, &TEXT, line)?;
         let removed = cross.remove_where(dimension, &filter, &mut steps)?;
         assert!(rt; removed == *count, "{line}");
-        let found = cross.group_all(group, &mut steps)?;
+        let found = numbers_of(rt, &cross, group, 0, &mut steps)?;
         see_entries(rt, alloc, found.as_slice(), tags)?;
     }
     Ok(())

@@ -1,12 +1,10 @@
 -- Each column gives its cell, or the first refusal.
-use Rattle.std.proofs.Common.{◌≡◌, ◌∙◌, ◌⊎◌, inr, ℕ, ◌+◌, ◌<◌, List, length, get_or, sym, ap, subst, refl, Ok, Err, Result, arith, zero-add}
+use Rattle.std.proofs.Common.{◌≡◌, ◌∙◌, inr, ◌<◌, List, length, get_or, sym, ap, subst, refl, Ok, Err, arith, zero-add}
 use Rattle.std.specs.List.{enumerate_from, range_with_len, zip}
 use Rattle.std.proofs.lemmas.List.FromFn.{get_or-range_with_len, length-enumerate_from, length-range_with_len}
 use Rattle.std.proofs.lemmas.Result.{err_from_is_err_and}
 use Rattle.std.proofs.lemmas.Slice.Zip.{length-zip}
-use Rattle.xf_base.specs.declared.cell.Cell.{Cell}
 use Rattle.xf_base.specs.declared.column.Column.{Column}
-use Rattle.xf_load.specs.Fallible.{each_ok}
 use Rattle.xf_load.specs.Load.{cell_at}
 use Rattle.xf_load.proofs.FallibleFacts.{IsReadTo-all, IsReadTo-more, IsReadTo-refused}
 use Rattle.xf_load.proofs.LoadFacts.{IsRowOf-more, Tells, Tells-Err, Tells-Ok, placed-at, row_of-even}

@@ -1,11 +1,12 @@
-use Rattle.std.proofs.Common.{◌≡◌, ◌+◌, List, Bool, length, map, sym, ap, ◌∙◌}
+-- The rows that pass every dimension are gone.
+use Rattle.std.proofs.Common.{◌≡◌, List, Bool, length, map, ap, ◌∙◌}
 use Rattle.std.proofs.lemmas.List.{length-map}
 use Rattle.std.specs.List.{range_with_len}
-use Rattle.xf_base.specs.Gone.{kept}
 use Rattle.xf_base.specs.declared.cell.Cell.{Cell}
 use Rattle.xf_engine.specs.Held.{passes_each_at}
 use Rattle.xf_engine.specs.State.{dimensions_of}
-use Rattle.xf_engine.proofs.Removed.{kept-without, marks-rows, removed-count}
+use Rattle.xf_engine.proofs.Removed.{kept-without, marks-rows}
+use Rattle.xf_engine.proofs.RowsRefolded.{counted-removed, removed-state}
 use Rattle.xf_model.specs.Dimension.{passes_each}
 use Rattle.xf_engine.proofs.cross.Cross.remove_passing.Goals as goal
 
@@ -39,8 +40,7 @@ returns-clause-removed g c =
     ∙ ap (λ count. map (passes_each_at says items) (range_with_len 0 count)) c.len-count.ensures
     ∙ marks-rows keys_of says c.self.inside.table.rows items c.self.invariant.keys
     ∙ ap (λ s. map (passes_each (dimensions_of keys_of says s.dimensions)) s.rows) c.self.view_is in
-    let sum : c.remove.result + length (kept c.in_ok-gone.gone before.rows) ≡ length before.rows = ap (λ s. c.remove.result + length s.rows) (sym c.remove.ensures.state) ∙ c.remove.ensures.count in
-    removed-count test before.rows c.in_ok-gone.gone c.remove.result marked sum
+    counted-removed c.remove.result test before c.remove.new.self c.in_ok-gone.gone marked c.remove.ensures.count c.remove.ensures.state
 
 pub returns-clause-ok : goal.returns-clause-ok
 returns-clause-ok g c =
@@ -56,4 +56,4 @@ returns-clause-ok g c =
     ∙ ap (λ count. map (passes_each_at says items) (range_with_len 0 count)) c.len-count.ensures
     ∙ marks-rows keys_of says c.self.inside.table.rows items c.self.invariant.keys
     ∙ ap (λ s. map (passes_each (dimensions_of keys_of says s.dimensions)) s.rows) c.self.view_is in
-    c.remove.ensures.state ∙ kept-without test before c.in_ok-gone.gone marked
+    removed-state c.remove.result c.remove.new.self c.remove.ensures.state (kept-without test before c.in_ok-gone.gone marked)

@@ -1,4 +1,5 @@
-use Rattle.std.proofs.Common.{◌≡◌, ◌+◌, List, Bool, Some, filter, option_map, length, map, sym, ap, ◌∙◌}
+-- The rows whose keys pass the filter are gone.
+use Rattle.std.proofs.Common.{rules, ◌≡◌, ◌+◌, ◌<◌, List, Bool, Some, filter, option_map, length, map, sym, ap, subst, ◌∙◌}
 use Rattle.std.proofs.lemmas.List.{length-map}
 use Rattle.xf_base.specs.Gone.{kept}
 use Rattle.xf_base.specs.declared.cell.Cell.{Cell}
@@ -9,8 +10,15 @@ use Rattle.xf_engine.specs.State.{LiveDimension, dimension_named, dimension_plac
 use Rattle.xf_engine.proofs.HeldCounts.{keys-at}
 use Rattle.xf_engine.proofs.HeldStates.{placed-dimension}
 use Rattle.xf_engine.proofs.Named.{find-placed-dimension}
+use Rattle.xf_engine.proofs.Refolded.{dimension-within}
 use Rattle.xf_engine.proofs.Removed.{kept-without, marks-keys, removed-count}
 use Rattle.xf_engine.proofs.cross.Cross.remove_where.Goals as goal
+
+pub index-requires : goal.index-requires
+index-requires g c =
+    let told = ap (λ s. dimension_place s c.args.id.0) c.self.view_is ∙ c.in_ok-place.ensures.place in
+    let long : length c.self.inside.dimensions.items ≡ c.self.inside.dimensions.len = search rules in
+    subst (λ n. c.in_ok-place.place < n) long (dimension-within c.args.id.0 c.self.inside.dimensions.items c.in_ok-place.place told)
 
 pub remove-requires : goal.remove-requires
 remove-requires g c =
@@ -55,8 +63,8 @@ returns-clause-removed g c =
     ∙ marks-keys says under (keys_of own.accessor) rows
     ∙ ap (λ s. map test s.rows) c.self.view_is in
     let named : dimension_named before c.args.id.0 ≡ Some (live_dimension own) = sym (ap (λ s. dimension_named s c.args.id.0) c.self.view_is) ∙ find-placed-dimension c.args.id.0 items place own told ∙ ap (λ d. Some (live_dimension d)) (sym c.index.ensures) in
-    let sum : c.remove.result + length (kept c.in_ok-gone.gone before.rows) ≡ length before.rows = ap (λ s. c.remove.result + length s.rows) (sym c.remove.ensures.state) ∙ c.remove.ensures.count in
-    ap Some (removed-count test before.rows c.in_ok-gone.gone c.remove.result marked sum)
+    let sum : c.in_ok-remove.field-0 + length (kept c.in_ok-gone.gone before.rows) ≡ length before.rows = ap (λ s. c.in_ok-remove.field-0 + length s.rows) (sym c.in_ok-remove.ensures.state) ∙ c.in_ok-remove.ensures.count in
+    ap Some (removed-count test before.rows c.in_ok-gone.gone c.in_ok-remove.field-0 marked sum)
     ∙ sym (ap (option_map (λ (live : LiveDimension g.row.A.Denot g.row.P.Denot). length (filter (passes_under keys_of says c.args.filter.now live) before.rows))) named)
 
 pub returns-clause-ok : goal.returns-clause-ok
@@ -80,4 +88,4 @@ returns-clause-ok g c =
     ∙ marks-keys says under (keys_of own.accessor) rows
     ∙ ap (λ s. map test s.rows) c.self.view_is in
     let named : dimension_named before c.args.id.0 ≡ Some (live_dimension own) = sym (ap (λ s. dimension_named s c.args.id.0) c.self.view_is) ∙ find-placed-dimension c.args.id.0 items place own told ∙ ap (λ d. Some (live_dimension d)) (sym c.index.ensures) in
-    c.remove.ensures.state ∙ kept-without test before c.in_ok-gone.gone marked ∙ sym (ap (without_under keys_of says before c.args.filter.now) named)
+    c.in_ok-remove.ensures.state ∙ kept-without test before c.in_ok-gone.gone marked ∙ sym (ap (without_under keys_of says before c.args.filter.now) named)

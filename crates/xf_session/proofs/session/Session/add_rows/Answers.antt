@@ -1,4 +1,4 @@
-use Rattle.std.proofs.Common.{◌≡◌, List, IfOk, inl, inr, lit≤, refl, subst, sym, arith}
+use Rattle.std.proofs.Common.{IfOk, inl, inr, lit≤, refl, subst, sym, arith}
 use Rattle.std.specs.List.{AllByRecursion}
 use Rattle.xf_base.specs.Schema.{IsRowOf}
 use Rattle.xf_session.proofs.AddedRows.{does-added, does-nothing, does-refused, never-mismatched}

@@ -1,7 +1,5 @@
 use Rattle.std.proofs.Common.{◌≡◌, ◌∙◌, ℕ, List, ◌++◌, Some, Ok, ap, sym}
 use Rattle.xf_base.specs.declared.form.KeyForm.{KeyForm}
-use Rattle.xf_engine.specs.declared.ids.GroupId.{GroupId}
-use Rattle.xf_engine.specs.declared.key_number.KeyNumber.{KeyNumber}
 use Rattle.xf_reply.specs.declared.reply.Reply.TheVariants.{Answer}
 use Rattle.xf_session.proofs.AskedNames.{told-group}
 use Rattle.xf_session.specs.Command.{entries_at, group_entries, group_form}
@@ -14,10 +12,9 @@ returns-clause-answer g c =
     let s = c.args.self.now in
     let id = c.in-Some.id in
     let form = c.group_form-form.result in
-    let shown = c.as_slice.result.now in
+    let shown = group_entries s id.0 in
     let found : Some id ≡ named s.groups c.args.name = sym c.in-Some.is ∙ c.group.ensures ∙ ap (λ (name : Name). named s.groups name) c.as_str.ensures in
-    let is : c.from_vec.result ≡ entry_lines (group_form s id.0) (group_entries s id.0) =
+    let is : c.from_vec.result ≡ entry_lines (group_form s id.0) shown =
     c.from_vec.ensures ∙ c.in_ok-put_entries.ensures.appended ∙ ap (λ (old : List ℕ). old ++ entry_lines form shown) c.new-out.ensures.items
-    ∙ ap (λ (form : KeyForm). entry_lines form shown) c.group_form-form.ensures
-    ∙ ap (entry_lines (group_form s id.0)) (c.as_slice.ensures.value ∙ c.in_ok-entries.ensures) in
+    ∙ ap (λ (form : KeyForm). entry_lines form shown) c.group_form-form.ensures in
     told-group {E = Unit {0}} s c.args.name id (entries_at s) (Ok (Answer c.from_vec.result)) found (ap Answer is)

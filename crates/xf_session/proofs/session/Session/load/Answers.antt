@@ -1,4 +1,4 @@
-use Rattle.std.proofs.Common.{◌≡◌, ◌∙◌, ℕ, ◌≤◌, List, length, IfSome, Option, Some, Result, Ok, ap, subst, sym, arith}
+use Rattle.std.proofs.Common.{◌≡◌, ◌∙◌, ℕ, ◌≤◌, List, length, IfSome, Option, Some, ap, subst, sym}
 use Rattle.std.specs.FinMap as map_of
 use Rattle.xf_base.specs.Bounds.{Bounds}
 use Rattle.xf_load.specs.Load.{rows_of}

@@ -1,4 +1,4 @@
-use Rattle.std.proofs.Common.{◌≡◌, ◌∙◌, List, length, get_or, Some, slice_get, ap, subst, refl, sym, arith}
+use Rattle.std.proofs.Common.{◌≡◌, ◌∙◌, List, get_or, Some, slice_get, ap, subst, refl, sym, arith}
 use Rattle.xf_base.specs.declared.column.Column.{Column}
 use Rattle.std.specs.List.{AllByRecursion}
 use Rattle.xf_base.specs.Schema.{IsColumn}

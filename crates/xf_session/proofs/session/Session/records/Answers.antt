@@ -1,10 +1,9 @@
-use Rattle.std.proofs.Common.{◌≡◌, ◌∙◌, ℕ, ◌<◌, ◌≤◌, List, [], None, length, map, drop, take, ap, subst, sym, arith}
+use Rattle.std.proofs.Common.{◌≡◌, ◌∙◌, ℕ, ◌<◌, ◌≤◌, List, None, length, map, ap, subst, sym, arith}
 use Rattle.std.specs.List.{AllByRecursion}
 use Rattle.std.proofs.lemmas.List.{drop_all, take_all}
 use Rattle.xf_access.specs.Stock.{keys_of_row}
 use Rattle.xf_engine.specs.Answers.{all_filtered_of}
 use Rattle.xf_engine.specs.State.{id_numbers}
-use Rattle.xf_engine.specs.declared.ids.DimensionId.{DimensionId}
 use Rattle.xf_filter.specs.Stock.{stock_says}
 use Rattle.xf_model.specs.Replay.{accepted}
 use Rattle.xf_session.proofs.AskedNames.{told-names}

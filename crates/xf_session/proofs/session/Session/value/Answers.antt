@@ -1,15 +1,14 @@
-use Rattle.std.proofs.Common.{◌≡◌, ◌∙◌, ℕ, List, ◌++◌, Option, Some, Ok, ap, sym, option_copied}
+use Rattle.std.proofs.Common.{◌≡◌, ◌∙◌, ℕ, List, ◌++◌, Some, Ok, ap, sym}
 use Rattle.std.specs.List.{find}
 use Rattle.std.specs.Ordering.{is_eq}
 use Rattle.xf_base.specs.Form.{key_of_word}
 use Rattle.xf_base.specs.Key.{key_cmp}
 use Rattle.xf_base.specs.declared.form.KeyForm.{KeyForm}
 use Rattle.xf_base.specs.declared.key.Key.{Key}
-use Rattle.xf_engine.specs.declared.key_number.KeyNumber.{KeyNumber}
 use Rattle.xf_reply.specs.declared.reply.Reply.TheVariants.{Answer}
 use Rattle.xf_session.proofs.AskedNames.{told-group}
 use Rattle.xf_session.specs.Command.{entry_at, group_entries, group_form}
-use Rattle.xf_session.specs.Outcome.{found_line}
+use Rattle.xf_session.specs.Outcome.{KeyFields, found_line}
 use Rattle.xf_session.specs.State.{Name, named}
 use Rattle.xf_session.proofs.session.Session.value.Goals as goal
 
@@ -19,12 +18,10 @@ returns-clause-answer g c =
     let id = c.in-Some.id in
     let word = c.args.word.now in
     let own = group_form s id.0 in
-    let at = λ (key : Key) (entries : List KeyNumber). find (λ (entry : KeyNumber). is_eq (key_cmp entry.key key)) entries in
+    let at = λ (key : Key). find (λ (entry : KeyFields). is_eq (key_cmp entry.0 key)) (group_entries s id.0) in
     let found : Some id ≡ named s.groups c.args.name = sym c.in-Some.is ∙ c.group.ensures ∙ ap (λ (name : Name). named s.groups name) c.as_str.ensures in
     let key : c.in_ok-key.key ≡ key_of_word own word = c.in_ok-key.ensures ∙ ap (λ (form : KeyForm). key_of_word form word) c.group_form-form.ensures in
-    let entry : option_copied c.entry_of.result ≡ at (key_of_word own word) (group_entries s id.0) =
-    c.entry_of.ensures ∙ ap (λ (key : Key). at key c.as_slice.result.now) key ∙ ap (at (key_of_word own word)) (c.as_slice.ensures.value ∙ c.in_ok-entries.ensures) in
-    let is : c.from_vec.result ≡ found_line own (at (key_of_word own word) (group_entries s id.0)) =
-    c.from_vec.ensures ∙ c.in_ok-put_found.ensures.appended ∙ ap (λ (old : List ℕ). old ++ found_line c.group_form-form.result (option_copied c.entry_of.result)) c.new-out.ensures.items
-    ∙ ap (λ (form : KeyForm). found_line form (option_copied c.entry_of.result)) c.group_form-form.ensures ∙ ap (found_line own) entry in
+    let is : c.from_vec.result ≡ found_line own (at (key_of_word own word)) =
+    c.from_vec.ensures ∙ c.in_ok-put_entry_of.ensures.appended ∙ ap (λ (old : List ℕ). old ++ found_line c.group_form-form.result (at c.in_ok-key.key)) c.new-out.ensures.items
+    ∙ ap (λ (form : KeyForm). found_line form (at c.in_ok-key.key)) c.group_form-form.ensures ∙ ap (λ (key : Key). found_line own (at key)) key in
     told-group {E = Unit {0}} s c.args.name id (λ id. entry_at s id word) (Ok (Answer c.from_vec.result)) found (ap Answer is)

@@ -1,7 +1,0 @@
--- None so far has the id.
-use Rattle.std.proofs.Common.{◌≡◌, ℕ, ◌<◌, ◌==◌, false, get_or}
-use Rattle.xf_engine.specs.declared.group.Group.{Group}
-use Rattle.xf_engine.proofs.group.group_place.Given as goal
-
-abbrev pub invariant-loop-place : goal.invariant-loop-place
-invariant-loop-place g l = (d : Group g.row.G.Denot) (k : ℕ) → k < l.place → ((get_or l.groups k d).id.0 == l.id.0) ≡ false
