@@ -1,16 +1,16 @@
 -- The words that are written for a command are read as it.
 use Rattle.std.proofs.Common.{◌≡◌, ℕ, List, [], ◌∷◌, codes, Option, Some, None, Ok, refl}
+use Rattle.xf_columns.specs.declared.words.AccessorWords.TheVariants as accessor
+use Rattle.xf_columns.specs.declared.words.AccessorWords.{AccessorWords}
+use Rattle.xf_columns.specs.declared.words.ReducerWords.{ReducerWords}
+use Rattle.xf_columns.specs.declared.words.RoundingWords.TheVariants as rounding
+use Rattle.xf_columns.specs.declared.words.RoundingWords.{RoundingWords}
 use Rattle.xf_filter.specs.Words.{Word}
 use Rattle.xf_filter.proofs.Again.{item_of_again}
 use Rattle.xf_script.specs.Canonical.{command_words, rounding_words}
 use Rattle.xf_script.specs.Grammar.{IsCommand, form_of_words}
 use Rattle.xf_script.specs.declared.command.CommandForm.{CommandForm}
 use Rattle.xf_script.specs.declared.command.CommandForm.TheVariants as form
-use Rattle.xf_script.specs.declared.words.AccessorWords.{AccessorWords}
-use Rattle.xf_script.specs.declared.words.AccessorWords.TheVariants as accessor
-use Rattle.xf_script.specs.declared.words.ReducerWords.{ReducerWords}
-use Rattle.xf_script.specs.declared.words.RoundingWords.{RoundingWords}
-use Rattle.xf_script.specs.declared.words.RoundingWords.TheVariants as rounding
 use Rattle.xf_script.proofs.Reducers.{reducer_again}
 use Rattle.xf_script.proofs.Said.{Said, SaidCount, SaidOffset, SaidRounding, said_of}
 

@@ -1,12 +1,12 @@
 -- The words of a reducer are read as it.
 use Rattle.std.proofs.Common.{◌≡◌, ◌∙◌, ℕ, ◌+◌, ◌<◌, List, [], ◌∷◌, ◌++◌, length, codes, Ok, refl, sym, ap, append_assoc, append-nil, length-append, arith}
+use Rattle.xf_columns.specs.declared.words.ReducerWords.TheVariants as reducer
+use Rattle.xf_columns.specs.declared.words.ReducerWords.{ReducerWords}
+use Rattle.xf_columns.specs.declared.words.SimpleWords.TheVariants as simple
+use Rattle.xf_columns.specs.declared.words.SimpleWords.{SimpleWords}
 use Rattle.xf_filter.specs.Words.{Word}
 use Rattle.xf_script.specs.Canonical.{reducer_words, simple_words}
 use Rattle.xf_script.specs.Grammar.{◌>>=◌, Read, ending, one_from, both_behind, reducer_from, simple_at}
-use Rattle.xf_script.specs.declared.words.ReducerWords.{ReducerWords}
-use Rattle.xf_script.specs.declared.words.ReducerWords.TheVariants as reducer
-use Rattle.xf_script.specs.declared.words.SimpleWords.{SimpleWords}
-use Rattle.xf_script.specs.declared.words.SimpleWords.TheVariants as simple
 use Rattle.xf_script.proofs.Positions.{there, there_next, ends}
 
 two : (first : ℕ) → first + 1 + 1 ≡ first + 2

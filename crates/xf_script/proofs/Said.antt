@@ -1,5 +1,7 @@
 -- What is known of a command that was read.
 use Rattle.std.proofs.Common.{◌≡◌, ℕ, ◌+◌, ◌-◌, nat_lt, Bool, true, false, if◌then◌else◌, List, [], ◌∷◌, length, drop, codes, decimal, Option, Some, None, Result, Ok, Err}
+use Rattle.xf_columns.specs.declared.words.RoundingWords.TheVariants as rounding
+use Rattle.xf_columns.specs.declared.words.RoundingWords.{RoundingWords}
 use Rattle.xf_filter.specs.Words.{Word, count_of, filter_words}
 use Rattle.xf_filter.specs.Reading as filter
 use Rattle.xf_filter.specs.declared.filter_syntax.Fault.{Fault}
@@ -19,8 +21,6 @@ use Rattle.xf_script.specs.declared.opener.Sort.{Sort}
 use Rattle.xf_script.specs.declared.opener.Sort.TheVariants as sort
 use Rattle.xf_script.specs.declared.opener.Verb.{Verb}
 use Rattle.xf_script.specs.declared.opener.Verb.TheVariants as verb
-use Rattle.xf_script.specs.declared.words.RoundingWords.{RoundingWords}
-use Rattle.xf_script.specs.declared.words.RoundingWords.TheVariants as rounding
 use Rattle.xf_script.proofs.Counts.{count_said, field_said, letters_said, width_said}
 use Rattle.xf_script.proofs.Steps.{AllOk, each, of_all}
 

@@ -6,6 +6,11 @@ use Rattle.std.proofs.lemmas.Bool.Decides.{nat_tests}
 use Rattle.std.specs.Str.{IsAscii}
 use Rattle.std.proofs.lemmas.Str.{IsUtf8-from_ascii}
 use Rattle.std.proofs.lemmas.Str.Ascii.{IsAscii-nil, IsAscii-cons}
+use Rattle.xf_columns.specs.declared.words.AccessorWords.{AccessorWords}
+use Rattle.xf_columns.specs.declared.words.ReducerWords.{ReducerWords}
+use Rattle.xf_columns.specs.declared.words.RoundingWords.TheVariants as rounding
+use Rattle.xf_columns.specs.declared.words.RoundingWords.{RoundingWords}
+use Rattle.xf_columns.specs.declared.words.SimpleWords.{SimpleWords}
 use Rattle.xf_filter.specs.Words.{Word, count_of, filter_words, item_words}
 use Rattle.xf_filter.specs.Reading as filter
 use Rattle.xf_filter.specs.declared.raw_filter.RawFilterParts.{RawFilterParts}
@@ -27,11 +32,6 @@ use Rattle.xf_script.specs.declared.opener.Sort.{Sort}
 use Rattle.xf_script.specs.declared.opener.Sort.TheVariants as sort
 use Rattle.xf_script.specs.declared.opener.Verb.{Verb}
 use Rattle.xf_script.specs.declared.opener.Verb.TheVariants as verb
-use Rattle.xf_script.specs.declared.words.AccessorWords.{AccessorWords}
-use Rattle.xf_script.specs.declared.words.ReducerWords.{ReducerWords}
-use Rattle.xf_script.specs.declared.words.RoundingWords.{RoundingWords}
-use Rattle.xf_script.specs.declared.words.RoundingWords.TheVariants as rounding
-use Rattle.xf_script.specs.declared.words.SimpleWords.{SimpleWords}
 use Rattle.xf_script.proofs.Counts.{unnatural}
 use Rattle.xf_script.proofs.Said.{Said, SaidCount, SaidOffset, SaidRounding, numbered_ok, said_of}
 use Rattle.xf_script.proofs.Steps.{AllOk, each, of_all}

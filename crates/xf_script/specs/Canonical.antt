@@ -1,16 +1,16 @@
 -- The one line in which a command is printed.
 use Rattle.std.specs.Prelude.{ℕ, List, [], ◌∷◌, ◌++◌, codes, decimal, Option, Some, None}
+use Rattle.xf_columns.specs.declared.words.AccessorWords.TheVariants as accessor
+use Rattle.xf_columns.specs.declared.words.AccessorWords.{AccessorWords}
+use Rattle.xf_columns.specs.declared.words.ReducerWords.TheVariants as reducer
+use Rattle.xf_columns.specs.declared.words.ReducerWords.{ReducerWords}
+use Rattle.xf_columns.specs.declared.words.RoundingWords.TheVariants as rounding
+use Rattle.xf_columns.specs.declared.words.RoundingWords.{RoundingWords}
+use Rattle.xf_columns.specs.declared.words.SimpleWords.TheVariants as simple
+use Rattle.xf_columns.specs.declared.words.SimpleWords.{SimpleWords}
 use Rattle.xf_filter.specs.Words.{Word, filter_words, item_words, line_of}
 use Rattle.xf_script.specs.declared.command.CommandForm.{CommandForm}
 use Rattle.xf_script.specs.declared.command.CommandForm.TheVariants as form
-use Rattle.xf_script.specs.declared.words.AccessorWords.{AccessorWords}
-use Rattle.xf_script.specs.declared.words.AccessorWords.TheVariants as accessor
-use Rattle.xf_script.specs.declared.words.ReducerWords.{ReducerWords}
-use Rattle.xf_script.specs.declared.words.ReducerWords.TheVariants as reducer
-use Rattle.xf_script.specs.declared.words.RoundingWords.{RoundingWords}
-use Rattle.xf_script.specs.declared.words.RoundingWords.TheVariants as rounding
-use Rattle.xf_script.specs.declared.words.SimpleWords.{SimpleWords}
-use Rattle.xf_script.specs.declared.words.SimpleWords.TheVariants as simple
 
 abbrev pub accessor_words : AccessorWords → List Word
 accessor_words (accessor.Column column) = codes "column" ∷ column ∷ []

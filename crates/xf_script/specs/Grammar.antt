@@ -7,6 +7,14 @@ use Rattle.std.specs.List.{AllByRecursion}
 use Rattle.std.specs.Str.{IsUtf8, is_utf8}
 use Rattle.std.specs.Str.Lossy.{utf8_valid_len}
 use Rattle.xf_base.specs.declared.limits.TheConstants.Limits.{LINE_BYTES}
+use Rattle.xf_columns.specs.declared.words.AccessorWords.TheVariants as accessor
+use Rattle.xf_columns.specs.declared.words.AccessorWords.{AccessorWords}
+use Rattle.xf_columns.specs.declared.words.ReducerWords.TheVariants as reducer
+use Rattle.xf_columns.specs.declared.words.ReducerWords.{ReducerWords}
+use Rattle.xf_columns.specs.declared.words.RoundingWords.TheVariants as rounding
+use Rattle.xf_columns.specs.declared.words.RoundingWords.{RoundingWords}
+use Rattle.xf_columns.specs.declared.words.SimpleWords.TheVariants as simple
+use Rattle.xf_columns.specs.declared.words.SimpleWords.{SimpleWords}
 use Rattle.xf_filter.specs.Reading as filter
 use Rattle.xf_filter.specs.Words.{Word, count_of}
 use Rattle.xf_filter.specs.declared.filter_syntax.FilterSyntax.{FilterSyntax}
@@ -31,14 +39,6 @@ use Rattle.xf_script.specs.declared.opener.Sort.{Sort}
 use Rattle.xf_script.specs.declared.opener.Sort.TheVariants as sort
 use Rattle.xf_script.specs.declared.opener.Verb.{Verb}
 use Rattle.xf_script.specs.declared.opener.Verb.TheVariants as verb
-use Rattle.xf_script.specs.declared.words.AccessorWords.{AccessorWords}
-use Rattle.xf_script.specs.declared.words.AccessorWords.TheVariants as accessor
-use Rattle.xf_script.specs.declared.words.ReducerWords.{ReducerWords}
-use Rattle.xf_script.specs.declared.words.ReducerWords.TheVariants as reducer
-use Rattle.xf_script.specs.declared.words.RoundingWords.{RoundingWords}
-use Rattle.xf_script.specs.declared.words.RoundingWords.TheVariants as rounding
-use Rattle.xf_script.specs.declared.words.SimpleWords.{SimpleWords}
-use Rattle.xf_script.specs.declared.words.SimpleWords.TheVariants as simple
 
 -- what is read from the words of a line
 abbrev pub Read : Type 0 → Type 0

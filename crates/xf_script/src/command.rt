@@ -2,9 +2,9 @@
 ghost use Rattle.std.specs.Prelude.{◌≡◌};
 ghost use Rattle.xf_script.specs.Grammar.{IsCommand};
 
-use crate::words::{AccessorWords, ReducerWords, RoundingWords};
 use std::marker::Model;
 use xf_base::{Text, TextList};
+use xf_columns::{AccessorWords, ReducerWords, RoundingWords};
 use xf_filter::{RawFilter, RawItem};
 
 /// A command that a line may say. It is made by `read_command` alone.

@@ -15,10 +15,8 @@ mod opener;
 mod parts;
 mod print;
 mod read;
-mod words;
 
 pub use command::{Command, CommandForm};
 pub use line_refusal::LineRefusal;
 pub use print::print_command;
 pub use read::read_command;
-pub use words::{AccessorWords, ReducerWords, RoundingWords, SimpleWords};

@@ -10,9 +10,9 @@ use crate::opener::{
     AccessorOpener, ReducerOpener, RoundingOpener, accessor_opener_of, reducer_opener_of,
     rounding_opener_of,
 };
-use crate::words::{AccessorWords, ReducerWords, RoundingWords, SimpleWords};
 use std::alloc::Global;
 use xf_base::Text;
+use xf_columns::{AccessorWords, ReducerWords, RoundingWords, SimpleWords};
 use xf_filter::{RawFilter, RawItem, read_filter, read_item};
 
 // ---- filters and items

@@ -5,10 +5,10 @@ ghost use Rattle.xf_script.specs.Canonical.{accessor_words, command_line, comman
 ghost use Rattle.xf_script.specs.Grammar.{form_of_line};
 
 use crate::command::{Command, CommandForm};
-use crate::words::{AccessorWords, ReducerWords, RoundingWords, SimpleWords};
 use itoa::Buffer;
 use std::alloc::Global;
 use xf_base::{Limits, OutOfMemory, Text, put_word};
+use xf_columns::{AccessorWords, ReducerWords, RoundingWords, SimpleWords};
 use xf_filter::{RawFilter, RawItem, print_filter, print_item};
 
 /// The one line that is written for a command: its words with one blank between each two, without a line end.

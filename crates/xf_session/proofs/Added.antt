@@ -7,6 +7,10 @@ use Rattle.xf_access.specs.Stock.{form_of, keys_of_row}
 use Rattle.xf_access.specs.declared.stock_accessor.StockAccessor.{StockAccessor}
 use Rattle.xf_access.specs.declared.stock_rounding.StockRounding.{StockRounding}
 use Rattle.xf_base.specs.declared.form.KeyForm.{KeyForm}
+use Rattle.xf_columns.specs.Columns.{accessor_of, applies, reducer_of, rounding_of}
+use Rattle.xf_columns.specs.declared.words.AccessorWords.{AccessorWords}
+use Rattle.xf_columns.specs.declared.words.ReducerWords.{ReducerWords}
+use Rattle.xf_columns.specs.declared.words.RoundingWords.{RoundingWords}
 use Rattle.xf_engine.proofs.ById.{apart}
 use Rattle.xf_engine.specs.Changes as change
 use Rattle.xf_engine.specs.State.{AreDistinct, IsFreeId, LiveDimension, dimension_ids, dimension_named, entries_by, entry_count, group_ids, is_taken, whole_ids}
@@ -31,14 +35,11 @@ use Rattle.xf_reply.specs.declared.reply.Reply.{Reply}
 use Rattle.xf_reply.specs.declared.reply.Reply.TheVariants as reply
 use Rattle.xf_base.specs.declared.out_of_memory.OutOfMemory.{OutOfMemory}
 use Rattle.xf_script.specs.declared.command.CommandForm.TheVariants as form
-use Rattle.xf_script.specs.declared.words.AccessorWords.{AccessorWords}
-use Rattle.xf_script.specs.declared.words.ReducerWords.{ReducerWords}
-use Rattle.xf_script.specs.declared.words.RoundingWords.{RoundingWords}
 use Rattle.xf_session.proofs.FreeId.{free-is}
 use Rattle.xf_session.proofs.NameLists.{absent-among, distinct-names-push}
 use Rattle.xf_session.proofs.Named.{StockGroup, StockWhole, named_live}
 use Rattle.xf_session.proofs.NamedLive.{named-push}
-use Rattle.xf_session.specs.Columns.{accessor_causes, accessor_of, applies, reducer_causes, reducer_of, rounding_of}
+use Rattle.xf_session.specs.Columns.{accessor_causes, reducer_causes}
 use Rattle.xf_session.specs.Command.{first_cause, free_id, outcome_of, plain, too_many_dimensions, too_many_entries, too_many_groups, unless_refused, where_so, with_dimension, with_group, with_whole}
 use Rattle.xf_session.specs.Does.{Does}
 use Rattle.xf_session.specs.Outcome.{Outcome, reply_of}

@@ -1,6 +1,10 @@
 -- What lines and commands do, by what the calls for them did.
 use Rattle.std.proofs.Common.{◌≡◌, inl, inr, ◌∙◌, ℕ, ◌+◌, ◌<◌, ◌^◌, nat_lt, Bool, true, false, cond, decimal, List, Option, Some, None, Result, Ok, Err, IfOk, ap, refl, subst, sym}
 use Rattle.xf_base.specs.declared.out_of_memory.OutOfMemory.{OutOfMemory}
+use Rattle.xf_columns.specs.Columns.{IsWidth}
+use Rattle.xf_columns.specs.declared.words.ReducerWords.{ReducerWords}
+use Rattle.xf_columns.specs.declared.words.RoundingWords.TheVariants as rounding
+use Rattle.xf_columns.specs.declared.words.RoundingWords.{RoundingWords}
 use Rattle.xf_model.specs.Replay.{state_after}
 use Rattle.xf_outside.specs.Account.{DepotAccount, Files}
 use Rattle.xf_outside.specs.Count.{Rose}
@@ -11,10 +15,6 @@ use Rattle.xf_filter.proofs.CountWords.{count-small}
 use Rattle.xf_filter.specs.Words.{count_of, if_passing}
 use Rattle.xf_script.proofs.Said.{Said, SaidRounding, said_of}
 use Rattle.xf_script.specs.Openers.{width_of}
-use Rattle.xf_script.specs.declared.words.ReducerWords.{ReducerWords}
-use Rattle.xf_script.specs.declared.words.RoundingWords.{RoundingWords}
-use Rattle.xf_script.specs.declared.words.RoundingWords.TheVariants as rounding
-use Rattle.xf_session.specs.Columns.{IsWidth}
 use Rattle.xf_script.specs.Grammar.{Answers, IsCommand, Read, form_of_line}
 use Rattle.xf_script.specs.declared.command.CommandForm.{CommandForm}
 use Rattle.xf_script.specs.declared.command.CommandForm.TheVariants as form

@@ -27,18 +27,18 @@ use Rattle.xf_base.specs.declared.column.ColumnKind.{ColumnKind}
 use Rattle.xf_base.specs.declared.column.ColumnKind.TheVariants as kind
 use Rattle.xf_base.specs.declared.form.KeyForm.{KeyForm}
 use Rattle.xf_base.specs.declared.form.KeyForm.TheVariants.{One}
+use Rattle.xf_columns.specs.Columns.{accessor_of, column_at, form_named, is_plain, kind_named}
+use Rattle.xf_columns.specs.declared.words.AccessorWords.TheVariants.{Column as ColumnWords}
+use Rattle.xf_columns.specs.declared.words.ReducerWords.TheVariants.{One as OneReducer}
+use Rattle.xf_columns.specs.declared.words.RoundingWords.TheVariants as rounding
+use Rattle.xf_columns.specs.declared.words.SimpleWords.TheVariants.{Count}
 use Rattle.xf_engine.specs.Refusals.{add_refusal_of, table_of}
 use Rattle.xf_engine.specs.State.{dimension_ids, entries_by, entry_count}
 use Rattle.xf_model.specs.Replay.{accepted, state_after}
 use Rattle.xf_reduce.specs.declared.simple.Simple.TheVariants as part
 use Rattle.xf_reduce.specs.declared.stock_reducer.StockReducer.TheVariants as reduced
 use Rattle.xf_script.specs.declared.command.CommandForm.TheVariants as form
-use Rattle.xf_script.specs.declared.words.AccessorWords.TheVariants.{Column as ColumnWords}
-use Rattle.xf_script.specs.declared.words.ReducerWords.TheVariants.{One as OneReducer}
-use Rattle.xf_script.specs.declared.words.RoundingWords.TheVariants as rounding
-use Rattle.xf_script.specs.declared.words.SimpleWords.TheVariants.{Count}
 use Rattle.xf_session.proofs.Named.{StockDimension}
-use Rattle.xf_session.specs.Columns.{accessor_of, column_at, form_named, is_plain, kind_named}
 use Rattle.xf_session.specs.Command.{free_id, plain, with_dimension, with_group}
 use Rattle.xf_session.specs.Does.{outcome_within}
 use Rattle.xf_session.specs.Start.{MayBegin, empty_session, session_to, with_column}

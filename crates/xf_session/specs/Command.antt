@@ -21,6 +21,7 @@ use Rattle.xf_base.specs.declared.form.AtomForm.TheVariants.{Text}
 use Rattle.xf_base.specs.declared.form.KeyForm.{KeyForm}
 use Rattle.xf_base.specs.declared.form.KeyForm.TheVariants.{One}
 use Rattle.xf_base.specs.declared.key.Key.{Key}
+use Rattle.xf_columns.specs.Columns.{accessor_of, applies, reducer_of, rounding_of}
 use Rattle.xf_engine.specs.Answers as answer
 use Rattle.xf_engine.specs.Changes as change
 use Rattle.xf_engine.specs.State.{LiveGroup, dimension_ids, entries_by, entry_count, group_ids, group_named, is_taken, whole_ids, whole_named}
@@ -47,7 +48,7 @@ use Rattle.xf_script.specs.declared.command.CommandForm.{CommandForm}
 use Rattle.xf_script.specs.declared.command.CommandForm.TheVariants as form
 use Rattle.xf_script.specs.declared.line_refusal.LineRefusal.{LineRefusal}
 use Rattle.xf_script.specs.declared.line_refusal.LineRefusal.TheVariants as line
-use Rattle.xf_session.specs.Columns.{accessor_causes, accessor_of, applies, reducer_causes, reducer_of, rounding_of}
+use Rattle.xf_session.specs.Columns.{accessor_causes, reducer_causes}
 use Rattle.xf_session.specs.Outcome.{Answer, KeyFields, Outcome, Changes, Records, Entries, Entry, Number, Counts, Nothing}
 use Rattle.xf_session.specs.State.{Name, Session, StockFilter, StockState, dimension_id_of, group_id_of, named, naming_of, whole_id_of}
 use Rattle.xf_session.specs.declared.naming.Naming.{Naming}

@@ -5,14 +5,14 @@ use Rattle.std.specs.Result.{result_map_both}
 use Rattle.xf_base.specs.Bounds.{Bounds}
 use Rattle.xf_base.specs.declared.column.Column.{Column}
 use Rattle.xf_base.specs.declared.limits.TheConstants.Limits.{DIMENSIONS}
+use Rattle.xf_columns.specs.Columns.{accessor_of}
+use Rattle.xf_columns.specs.declared.words.AccessorWords.TheVariants.{Column as ColumnWords}
 use Rattle.xf_engine.specs.State.{no_events}
 use Rattle.xf_reply.specs.declared.refusal.Refusal.{Refusal}
 use Rattle.xf_reply.specs.declared.refusal.Refusal.TheVariants as refusal
-use Rattle.xf_script.specs.declared.words.AccessorWords.TheVariants.{Column as ColumnWords}
 use Rattle.xf_access.specs.declared.stock_rounding.StockRounding.TheVariants.{Same}
 use Rattle.xf_reduce.specs.declared.simple.Simple.TheVariants.{Count}
 use Rattle.xf_reduce.specs.declared.stock_reducer.StockReducer.TheVariants.{One}
-use Rattle.xf_session.specs.Columns.{accessor_of}
 use Rattle.xf_session.specs.Command.{with_dimension, with_group, with_rows}
 use Rattle.xf_session.specs.State.{Session}
 use Rattle.xf_sheet.specs.Sheet.{sheet_of}

@@ -12,10 +12,10 @@ use std::alloc::Global;
 use std::marker::Brand;
 use std::sync::ledger::{Blank, Ledger};
 use xf_base::{Limits, OutOfMemory, RowList, Schema, Steps, Text};
+use xf_columns::{AccessorWords, ReducerWords, RoundingWords, SimpleWords};
 use xf_engine::{AddRefusal, Cross, WholeRefusal};
 use xf_reduce::{Simple, StockReducer};
 use xf_reply::Refusal;
-use xf_script::{AccessorWords, ReducerWords, RoundingWords, SimpleWords};
 use xf_sheet::{Sheet, SheetRefusal, read_sheet};
 
 /// Why a CSV file has no session.

@@ -1,6 +1,7 @@
 //! The commands that make dimensions, groups and wholes, order groups, and dispose of them.
 ghost use Rattle.std.specs.Prelude.{◌≡◌, ◌⊎◌, ◌+◌, ◌<◌, None, Some, IfErr, IfOk, OnErr, OnOk, length, slice_get, true, unwrap_or};
 ghost use Rattle.xf_access.specs.Stock.{fits_columns, keys_of_row};
+ghost use Rattle.xf_columns.specs.Columns.{IsWidth};
 ghost use Rattle.xf_engine.specs.Refusals.{dimension_refusal_of, group_refusal_of, whole_refusal_of};
 ghost use Rattle.xf_engine.specs.State.{group_ids, is_taken};
 ghost use Rattle.xf_engine.specs.declared.ids.GroupId.{GroupId};
@@ -8,27 +9,26 @@ ghost use Rattle.xf_group.specs.Order.{order_field};
 ghost use Rattle.xf_model.specs.Replay.{state_after};
 ghost use Rattle.xf_reduce.specs.StockReducer.{stock_fits};
 ghost use Rattle.xf_script.specs.declared.command.CommandForm.TheVariants.{Dimension, DisposeDimension, DisposeGroup, DisposeWhole, Group, Order, Whole};
-ghost use Rattle.xf_session.specs.Columns.{IsWidth};
 ghost use Rattle.xf_session.specs.Command.{group_field_count, live_groups, with_dimension, with_group, with_whole};
 ghost use Rattle.xf_session.specs.Does.{Does, outcome_within};
 ghost use Rattle.xf_session.specs.Outcome.{reply_of};
 ghost use Rattle.xf_session.specs.Refused.{cause_of_dimension};
 ghost use Rattle.xf_session.specs.State.{Name, named};
 
-use crate::columns::{accessor_of, applies, reducer_of, rounding_of};
+use crate::columns::{find_accessor, find_reducer};
 use crate::names::Names;
 use crate::naming::Naming;
 use crate::session::{Session, StockCross};
 use std::sync::ledger::Ledger;
 use xf_access::{StockAccessor, StockRounding};
 use xf_base::{OutOfMemory, Steps, Text};
+use xf_columns::{AccessorWords, ReducerWords, RoundingWords, applies, rounding_of};
 use xf_engine::{
     DimensionId, DimensionRefusal, DisposeRefusal, GroupId, GroupRefusal, WholeRefusal,
 };
 use xf_group::GroupOrder;
 use xf_reduce::{Reducer, StockReducer};
 use xf_reply::{Change, Refusal, Reply};
-use xf_script::{AccessorWords, ReducerWords, RoundingWords};
 
 impl Session {
     /// `dimension D ACCESSOR`.
@@ -43,7 +43,7 @@ impl Session {
         if self.dimension(name.as_str()).is_some() {
             return Ok(Reply::Refused(Refusal::NameTaken { name }));
         }
-        let accessor = match accessor_of(self.cross.schema(), words) {
+        let accessor = match find_accessor(self.cross.schema(), words) {
             Ok(accessor) => accessor,
             Err(cause) => return Ok(Reply::Refused(cause)),
         };
@@ -108,7 +108,7 @@ impl Session {
         if !applies(rounding, naming.form) {
             return Ok(Reply::Refused(Refusal::WrongRounding));
         }
-        let reducer = match reducer_of(self.cross.schema(), reducer) {
+        let reducer = match find_reducer(self.cross.schema(), reducer) {
             Ok(reducer) => reducer,
             Err(cause) => return Ok(Reply::Refused(cause)),
         };
@@ -164,7 +164,7 @@ impl Session {
         if self.whole(name.as_str()).is_some() {
             return Ok(Reply::Refused(Refusal::NameTaken { name }));
         }
-        let reducer = match reducer_of(self.cross.schema(), reducer) {
+        let reducer = match find_reducer(self.cross.schema(), reducer) {
             Ok(reducer) => reducer,
             Err(cause) => return Ok(Reply::Refused(cause)),
         };

@@ -2,11 +2,12 @@
 use Rattle.std.proofs.Common.{◌≡◌, ◌∙◌, List, None, Some, is_some, option_map, sym, ap, subst}
 use Rattle.xf_access.specs.Stock.{keys_of_row}
 use Rattle.xf_base.specs.declared.column.Column.{Column}
+use Rattle.xf_columns.specs.Columns.{accessor_of}
 use Rattle.xf_engine.specs.Refusals.{dimension_refusal_of}
 use Rattle.xf_model.specs.Replay.{state_after}
 use Rattle.xf_script.specs.declared.command.CommandForm.TheVariants as form
 use Rattle.xf_session.proofs.Added.{accessor-outcome, dimension-outcome, does-refused, none-mapped}
-use Rattle.xf_session.specs.Columns.{accessor_causes, accessor_of}
+use Rattle.xf_session.specs.Columns.{accessor_causes}
 use Rattle.xf_session.specs.Command.{first_cause, with_dimension}
 use Rattle.xf_session.specs.Does.{no_files, outcome_within}
 use Rattle.xf_session.specs.Outcome.{reply_of}

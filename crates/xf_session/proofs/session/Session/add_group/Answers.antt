@@ -2,10 +2,11 @@
 use Rattle.std.proofs.Common.{◌≡◌, ◌∙◌, List, None, Some, true, inl, inr, is_some, rules, sym, ap}
 use Rattle.xf_access.specs.declared.stock_rounding.StockRounding.{StockRounding}
 use Rattle.xf_base.specs.declared.column.Column.{Column}
+use Rattle.xf_columns.specs.Columns.{applies, reducer_of, rounding_of}
 use Rattle.xf_engine.specs.declared.group_refusal.GroupRefusal.TheVariants.{TooManyGroups}
 use Rattle.xf_model.specs.Replay.{state_after}
 use Rattle.xf_session.proofs.Added.{group-outcome, group-reducer-outcome, group-there, none-named}
-use Rattle.xf_session.specs.Columns.{applies, reducer_causes, reducer_of, rounding_of}
+use Rattle.xf_session.specs.Columns.{reducer_causes}
 use Rattle.xf_session.specs.Command.{first_cause, with_group}
 use Rattle.xf_session.specs.Does.{no_files}
 use Rattle.xf_session.specs.Outcome.{reply_of}

@@ -1,10 +1,11 @@
 -- a whole comes, or is refused for the first cause that holds
 use Rattle.std.proofs.Common.{◌≡◌, ◌∙◌, List, None, Some, inl, inr, is_some, sym, ap}
 use Rattle.xf_base.specs.declared.column.Column.{Column}
+use Rattle.xf_columns.specs.Columns.{reducer_of}
 use Rattle.xf_engine.specs.declared.whole_refusal.WholeRefusal.TheVariants.{TooManyGroups}
 use Rattle.xf_model.specs.Replay.{state_after}
 use Rattle.xf_session.proofs.Added.{none-named, whole-outcome, whole-reducer-outcome}
-use Rattle.xf_session.specs.Columns.{reducer_causes, reducer_of}
+use Rattle.xf_session.specs.Columns.{reducer_causes}
 use Rattle.xf_session.specs.Command.{first_cause, with_whole}
 use Rattle.xf_session.specs.Does.{no_files}
 use Rattle.xf_session.specs.Outcome.{reply_of}

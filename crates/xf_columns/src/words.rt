@@ -1,4 +1,4 @@
-//! What a command says of accessors, roundings and reducers, with names of columns that are not looked up yet.
+//! Accessors, roundings and reducers as words say them, with names of columns that are not looked up yet.
 
 use xf_base::Text;
 
