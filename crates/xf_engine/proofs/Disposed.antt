@@ -7,7 +7,7 @@ use Rattle.xf_base.specs.declared.key.Key.{Key}
 use Rattle.xf_base.specs.declared.kind.KeyKind.{KeyKind}
 use Rattle.xf_engine.specs.Changes.{without_dimension}
 use Rattle.xf_engine.specs.Folding.{regrouped, revalued}
-use Rattle.xf_engine.specs.Held.{HoldsEntriesOf, HoldsKeysOf, HoldsWholeOf, IsCross, is_elsewhere, live_dimensions, state_of}
+use Rattle.xf_engine.specs.Held.{HoldsGroupOf, HoldsKeysOf, HoldsWholeOf, IsCross, is_elsewhere, live_dimensions, state_of}
 use Rattle.xf_engine.specs.Refolded.{AreRegrouped, AreRevalued, filtered_at}
 use Rattle.xf_engine.specs.State.{AreDistinct, IsState, LiveDimension, State, dimension_ids, has_id}
 use Rattle.xf_engine.specs.declared.dimension.Dimension.{Dimension}
@@ -45,7 +45,7 @@ cross-disposed {A} {G} {P} {R} {V} keys_of fits_to kind_of says keys_in rounded 
     let there : position (has_id id) lives ≡ Some place = filtered-placed id held place All ∙ told in
     let free : (get_or cleared place d).filter ≡ All = filtered-get held place d All (dimension-within id held place told) in
     let gone : remove cleared place ≡ remove held place = remove-filtered held place All in
-    let shown : List (Dimension A P) → List (Grouping G (Grouped R V)) → Type 0 = λ ds gs. AllByRecursion (HoldsEntriesOf keys_of says rounded meaning_of folding (state_of table ds (filter (is_elsewhere id) gs) wholes events)) (filter (is_elsewhere id) gs) in
+    let shown : List (Dimension A P) → List (Grouping G (Grouped R V)) → Type 0 = λ ds gs. AllByRecursion (HoldsGroupOf keys_of says rounded meaning_of folding (state_of table ds (filter (is_elsewhere id) gs) wholes events)) (filter (is_elsewhere id) gs) in
     let told_wholes : List (Dimension A P) → List (Whole R V) → Type 0 = λ ds ws. AllByRecursion (HoldsWholeOf {G = G} keys_of says meaning_of folding (state_of table ds (filter (is_elsewhere id) groups) ws events)) ws in
     record {
       state = subst (IsState keys_of fits_to kind_of keys_in suits fields) (sym (disposed-state keys_of says rounded meaning_of folding lives table.rows table held old_groups groups old_wholes wholes events id place d is.distinct told for_groups for_wholes))

@@ -10,7 +10,7 @@ use Rattle.xf_base.specs.declared.cell.Cell.{Cell}
 use Rattle.xf_base.specs.declared.key.Key.{Key}
 use Rattle.xf_engine.specs.Answers.{all_of, entries_of, group_top_of, meaning_of_key, numbers_of, top_entries}
 use Rattle.xf_engine.specs.Folding.{entry_numbers}
-use Rattle.xf_engine.specs.Held.{HoldsEntriesOf, live_group}
+use Rattle.xf_engine.specs.Held.{HoldsGroupOf, live_group}
 use Rattle.xf_engine.specs.State.{LiveGroup, State, group_named}
 use Rattle.xf_engine.specs.declared.grouping.Grouping.{Grouping}
 use Rattle.xf_group.specs.Group.{Grouped, is_entry_of, meanings, ranked_positions, value_at}
@@ -183,12 +183,12 @@ all-answer {A} {G} {P} {R} keys_of says rounded meaning_of folding rank state id
 
 -- the first entries by rank, each with the number of a field
 pub top-answer : {A G P R V M : Type 0} (keys_of : A → List Cell → List Key) (says : P → Key → Bool) (rounded : G → Key → Key) (meaning_of : V → M) (folding : R → Reducer (List Cell) M) (rank : R → M → ℕ → ℤ) (state : State A G P R) (id k field : ℕ) (held : Grouping G (Grouped R V))
-    → group_named state id ≡ Some (live_group held) → HoldsEntriesOf keys_of says rounded meaning_of folding state held
+    → group_named state id ≡ Some (live_group held) → HoldsGroupOf keys_of says rounded meaning_of folding state held
     → group_top_of keys_of says rounded folding rank state id k field ≡ Some (entry_numbers (λ value. rank held.group.reducer (meaning_of value) field) (first_entries (λ value. rank held.group.reducer (meaning_of value) (order_field held.order)) k held.group.entries))
 top-answer {A} {G} {P} {R} keys_of says rounded meaning_of folding rank state id k field held named holds =
     let order : ℕ = order_field held.order in
     let own : R = held.group.reducer in
     ap (option_map (λ (group : LiveGroup G R). numbers_of (rank group.reducer) field (top_entries keys_of says rounded folding rank state k group))) named
-    ∙ ap (λ entries. Some (numbers_of (rank own) field (group_top (λ meaning. rank own meaning order) k entries))) (sym holds)
+    ∙ ap (λ entries. Some (numbers_of (rank own) field (group_top (λ meaning. rank own meaning order) k entries))) (sym holds.1)
     ∙ ap (λ entries. Some (numbers_of (rank own) field entries)) (top-meant meaning_of (λ meaning. rank own meaning order) k held.group.entries)
     ∙ ap Some (numbers-meant meaning_of (rank own) field (first_entries (λ value. rank own (meaning_of value) order) k held.group.entries))

@@ -1,11 +1,11 @@
--- Rows that come one by one into a group, or into a whole, that has none: what its values mean, and for which rows they are ready.
-use Rattle.std.proofs.Common.{◌≡◌, ℕ, zero, suc, ◌+◌, ◌-◌, ◌<◌, ◌≤◌, Bool, true, false, ◌&&◌, ◌||◌, cond, List, [], ◌∷◌, ◌++◌, Option, Some, drop, get_or, length, map, slice_get, take, refl, sym, ap, subst, ◌∙◌, arith}
+-- Rows that come one by one into a group, or into a whole, that has none: what its values mean, and that they may come.
+use Rattle.std.proofs.Common.{◌≡◌, ℕ, suc, ◌+◌, ◌<◌, ◌≤◌, Bool, true, false, ◌&&◌, ◌||◌, cond, List, [], ◌∷◌, ◌++◌, Option, Some, get_or, length, map, slice_get, take, refl, sym, ap, subst, ◌∙◌, arith}
 use Rattle.std.proofs.lemmas.Bool.{true≢false}
 use Rattle.std.proofs.lemmas.Cmp.{tied_itself}
-use Rattle.std.proofs.lemmas.List.{length-take, map-id, take-append-drop, take_rest}
+use Rattle.std.proofs.lemmas.List.{length-take, map-id}
 use Rattle.std.proofs.lemmas.List.Elements.{All-from_recursion}
 use Rattle.std.proofs.lemmas.Option.{get_or_from_slice_get, unwrap_or-slice_get}
-use Rattle.std.specs.List.{AllByRecursion, AllZip, find, flat_map}
+use Rattle.std.specs.List.{AllByRecursion, find, flat_map}
 use Rattle.std.specs.List.Sorted.{IsStrictlySortedBy}
 use Rattle.std.specs.Option.{option_map, unwrap_or}
 use Rattle.std.specs.Ordering.{is_eq}
@@ -21,7 +21,7 @@ use Rattle.xf_base.specs.declared.limits.TheConstants.Limits.{ROWS}
 use Rattle.xf_group.proofs.AdmitFresh.{equal_from_test}
 use Rattle.xf_group.proofs.AscendingEntries.{less_back}
 use Rattle.xf_group.proofs.JoinedGroup.{all-take}
-use Rattle.xf_group.specs.Admitted.{AreReady, IsReadyAt, StayReady, SuitAll}
+use Rattle.xf_group.specs.Admitted.{IsReadyAt, SuitAll}
 use Rattle.xf_group.specs.Changed.{AreChanged, IsChangedIf, MayChange, MayChangeAll, changed_meaning}
 use Rattle.xf_group.specs.Group.{Grouped, is_entry_of, keys_at, keys_in, meaning_at, meanings, meanings_for, value_at}
 use Rattle.xf_group.specs.Held.{keys_of}
@@ -29,7 +29,7 @@ use Rattle.xf_group.specs.declared.entry.Entry.{Entry}
 use Rattle.xf_model.proofs.AscendingKeys.{all_implies, sorted-distinct_keys}
 use Rattle.xf_model.specs.Group.{Reducer, fold_of}
 use Rattle.xf_model.specs.Laws.{is_among}
-use Rattle.xf_reduce.specs.Laws.{IsFoldBefore}
+use Rattle.xf_reduce.specs.Laws.{IsFoldBefore, Suits}
 use Rattle.xf_engine.proofs.FoldedEntries.{counted-next, entries-next, fold_of-next, with_row}
 use Rattle.xf_engine.specs.Folding.{counted, counted_with}
 
@@ -51,25 +51,6 @@ all_of_map P f (x ∷ xs) all = (all.0, all_of_map P f xs all.1)
 map_map : {X Y Z : Type 0} (f : Y → Z) (g : X → Y) (xs : List X) → map f (map g xs) ≡ map (λ x. f (g x)) xs
 map_map f g [] = refl
 map_map f g (x ∷ xs) = ap (λ rest. f (g x) ∷ rest) (map_map f g xs)
-
-zip_then : {A B : Type 0} (R S : A → B → Type 0) → ((x : A) (y : B) → R x y → S x y) → (xs : List A) (ys : List B) → AllZip R xs ys → AllZip S xs ys
-zip_then R S step [] [] all = tt
-zip_then R S step [] (y ∷ ys) all = absurd all
-zip_then R S step (x ∷ xs) [] all = absurd all
-zip_then R S step (x ∷ xs) (y ∷ ys) all = (step x y all.0, zip_then R S step xs ys all.1)
-
-zip_join : {A B : Type 0} (R : A → B → Type 0) (xs others : List A) (ys more : List B) → AllZip R xs ys → AllZip R others more → AllZip R (xs ++ others) (ys ++ more)
-zip_join R [] others [] more all rest = rest
-zip_join R [] others (y ∷ ys) more all rest = absurd all
-zip_join R (x ∷ xs) others [] more all rest = absurd all
-zip_join R (x ∷ xs) others (y ∷ ys) more all rest = (all.0, zip_join R xs others ys more all.1 rest)
-
-zip_at : {A B : Type 0} (R : A → B → Type 0) (xs : List A) (ys : List B) (i : ℕ) (d : A) (e : B) → AllZip R xs ys → i < length xs → R (get_or xs i d) (get_or ys i e)
-zip_at R [] [] i d e all inside = absurd (omega (arith, inside))
-zip_at R [] (y ∷ ys) i d e all inside = absurd all
-zip_at R (x ∷ xs) [] i d e all inside = absurd all
-zip_at R (x ∷ xs) (y ∷ ys) zero d e all inside = all.0
-zip_at R (x ∷ xs) (y ∷ ys) (suc i) d e all inside = zip_at R xs ys i d e all.1 (omega (arith, inside))
 
 -- ---- rows
 
@@ -242,10 +223,6 @@ module _ {V Meaning : Type 0} (meaning_of : V → Meaning) where
     took_meaning row true old new is = is.meaning
     took_meaning row false old new is = ap meaning_of is
 
-    took_ready : (row at : List Cell) (changed : Bool) (old new : V) → TookInIf row changed old new → IsReady old at → IsReady new at
-    took_ready row at true old new is ready = is.ready at ready
-    took_ready row at false old new is ready = subst (λ value. IsReady value at) (sym is) ready
-
     -- so they mean what they did with the row
     pub took_meanings : (row : List Cell) (own : List Key) (old new : List (Entry V)) → TookIn row own old new → meanings meaning_of new ≡ with_row folding row own true (meanings meaning_of old)
     took_meanings row own [] [] all = refl
@@ -256,41 +233,9 @@ module _ {V Meaning : Type 0} (meaning_of : V → Meaning) where
         ∙ ap (λ meaning. entry x.key meaning ∷ meanings meaning_of ys) (took_meaning row (is_among key_cmp own x.key) x.value y.value all.0.1)
         ∙ ap (λ later. entry x.key (cond (is_among key_cmp own x.key) (folding.step (meaning_of x.value) row) (meaning_of x.value)) ∷ later) (took_meanings row own xs ys all.1)
 
-    -- the value that was found is ready
-    abbrev FoundReady : List Cell → Option (Entry V) → Type 0
-    FoundReady at found = (value : V) × (option_map (λ (own : Entry V). own.value) found ≡ Some value) × IsReady value at
-
-    found_next : (at : List Cell) (test : Bool) (x y : Entry V) (found later : Option (Entry V)) → (IsReady x.value at → IsReady y.value at) → (FoundReady at found → FoundReady at later) → FoundReady at (cond test (Some x) found) → FoundReady at (cond test (Some y) later)
-    found_next at true x y found later here there ready =
-        let same : x.value ≡ ready.0 = cc in
-        (y.value, refl, here (subst (λ value. IsReady value at) (sym same) ready.2))
-    found_next at false x y found later here there ready = there ready
-
-    -- and they stay ready
-    pub took_stay : (row : List Cell) (own : List Key) (old new : List (Entry V)) → TookIn row own old new → StayReady IsReady old new
-    took_stay row own [] [] all key at ready = ready
-    took_stay row own [] (y ∷ ys) all key at ready = absurd all
-    took_stay row own (x ∷ xs) [] all key at ready = absurd all
-    took_stay row own (x ∷ xs) (y ∷ ys) all key at ready =
-        let same : is_entry_of key x ≡ is_entry_of key y = ap (λ k. is_eq (key_cmp key k)) (sym all.0.0) in
-        subst (λ test. FoundReady at (cond test (Some y) (find (is_entry_of key) ys))) same
-        (found_next at (is_entry_of key x) x y (find (is_entry_of key) xs) (find (is_entry_of key) ys)
-        (took_ready row at (is_among key_cmp own x.key) x.value y.value all.0.1) (took_stay row own xs ys all.1 key at) ready)
-
--- ---- ready groups
+-- ---- groups whose values are ready for a row
 
 module _ {V : Type 0} (IsReady : V → List Cell → Type 0) where
-  abbrev ReadyFor : List (Entry V) → List Cell → List Key → Type 0
-  ReadyFor entries row own = AllByRecursion (λ key. IsReadyAt IsReady entries key row) own
-
-  pub ready_on : (old new : List (Entry V)) (rows : List (List Cell)) (keys : List (List Key)) → StayReady IsReady old new → AreReady IsReady old rows keys → AreReady IsReady new rows keys
-  ready_on old new rows keys stay ready =
-      zip_then (ReadyFor old) (ReadyFor new) (λ row own all. all_implies (λ key. IsReadyAt IsReady old key row) (λ key. IsReadyAt IsReady new key row) (λ key. stay key row) own all) rows keys ready
-
-  -- a group that is ready for more rows
-  pub ready_join : (old new : List (Entry V)) (rows more : List (List Cell)) (keys others : List (List Key)) → StayReady IsReady old new → AreReady IsReady old rows keys → AreReady IsReady new more others → AreReady IsReady new (rows ++ more) (keys ++ others)
-  ready_join old new rows more keys others stay before now = zip_join (ReadyFor new) rows more keys others (ready_on old new rows keys stay before) now
-
   -- what holds of each key of a list holds of one that ties with one of them
   among_step : (P : Key → Type 0) (q key : Key) (tied : Bool) (rest : Bool) → is_eq (key_cmp q key) ≡ tied → P key → (rest ≡ true → P q) → (tied || rest) ≡ true → P q
   among_step P q key true rest is here later among = subst P (sym (key_cmp-equal q key (equal_from_test (key_cmp q key) is))) here
@@ -326,13 +271,12 @@ module _ {V : Type 0} (IsReady : V → List Cell → Type 0) where
 
   -- the values of the keys of the row at a place may take it in, once they have those that count of the rows before it
   pub may_take : {Meaning : Type 0} (meaning_of : V → Meaning) (fits : List Column → Bool) (folding : Reducer (List Cell) Meaning) (rows : List (List Cell)) (keys : List (List Key)) (counts : List Bool) (i : ℕ) (row : List Cell) (entries : List (Entry V))
-      → SuitAll fits rows → length rows ≤ ROWS → i < length rows → slice_get rows i ≡ Some row → AreReady IsReady entries rows keys → meanings meaning_of entries ≡ group_of_first folding rows keys counts i
+      → SuitAll fits rows → length rows ≤ ROWS → i < length rows → slice_get rows i ≡ Some row → AllByRecursion (λ key. IsReadyAt IsReady entries key row) (get_or keys i []) → meanings meaning_of entries ≡ group_of_first folding rows keys counts i
       → MayChangeAll meaning_of fits folding IsReady (get_or keys i []) true row entries
-  may_take {Meaning} meaning_of fits folding rows keys counts i row entries suit few inside here ready so_far =
+  may_take {Meaning} meaning_of fits folding rows keys counts i row entries suit few inside here own so_far =
       let f : Key → Meaning = λ key. fold_of folding (counted_with key (take i rows) (take i keys) (take i counts)) in
       let is_row : row ≡ get_or rows i row = is_at rows i row here in
       let sorted : IsStrictlySortedBy key_cmp (keys_of entries) = subst (IsStrictlySortedBy key_cmp) (sym (meant_keys meaning_of f entries (keys_in keys) so_far)) (sorted-distinct_keys key_cmp_total (flat_map (λ (own : List Key). own) keys)) in
-      let own : AllByRecursion (λ key. IsReadyAt IsReady entries key row) (get_or keys i []) = subst (λ r. ReadyFor entries r (get_or keys i [])) (sym is_row) (zip_at (ReadyFor entries) rows keys i row [] ready inside) in
       all_implies (λ (one : Entry V). (value_at entries one.key ≡ Some one.value) × (meaning_of one.value ≡ f one.key))
       (λ (one : Entry V). is_among key_cmp (get_or keys i []) one.key ≡ true → MayChange fits folding true (meaning_of one.value) row × IsReady one.value row)
       (λ one both among. (
@@ -346,32 +290,49 @@ module _ {V : Type 0} (IsReady : V → List Cell → Type 0) where
 
 -- ---- a group that takes rows in one after another
 
--- one that has those that count of the first rows, and is ready for all
-pub record HasFirst {R V Meaning : Type 0} (meaning_of : V → Meaning) (folding : R → Reducer (List Cell) Meaning) (IsReady : R → V → List Cell → Type 0) (first : Grouped R V) (rows : List (List Cell)) (counts : List Bool) (n : ℕ) (group : Grouped R V) : Type 0 where
+-- one that has those that count of the first rows
+pub record HasFirst {R V Meaning : Type 0} (meaning_of : V → Meaning) (folding : R → Reducer (List Cell) Meaning) (first : Grouped R V) (rows : List (List Cell)) (counts : List Bool) (n : ℕ) (group : Grouped R V) : Type 0 where
   pub reducer : group.reducer ≡ first.reducer
   pub places : group.places ≡ first.places
   pub means : meanings meaning_of group.entries ≡ group_of_first (folding first.reducer) rows first.places counts n
-  pub ready : AreReady (IsReady first.reducer) group.entries rows first.places
 
-module _ {R V Meaning : Type 0} (meaning_of : V → Meaning) (folding : R → Reducer (List Cell) Meaning) (IsReady : R → V → List Cell → Type 0) (first : Grouped R V) (rows : List (List Cell)) (counts : List Bool) (i : ℕ) (row : List Cell) (group : Grouped R V) (has : HasFirst meaning_of folding IsReady first rows counts i group) where
+module _ {R V Meaning : Type 0} (meaning_of : V → Meaning) (folding : R → Reducer (List Cell) Meaning) (first : Grouped R V) (rows : List (List Cell)) (counts : List Bool) (i : ℕ) (row : List Cell) (group : Grouped R V) (has : HasFirst meaning_of folding first rows counts i group) where
   -- the keys of the row at the place
   own_keys : keys_at group i ≡ get_or first.places i []
   own_keys = unwrap_or-slice_get group.places i [] ∙ ap (λ places. get_or places i []) has.places
 
+  -- the row is one that its reducer fits
+  pub first_suits : (fits : R → List Column → Bool) → SuitAll (fits first.reducer) rows → i < length rows → slice_get rows i ≡ Some row → Suits (fits group.reducer) row
+  first_suits fits suit inside here =
+      subst (λ (reducer : R). Suits (fits reducer) row) (sym has.reducer) (record { columns = suit.columns; fit = suit.fit; of_columns = row_of (fits first.reducer) rows i row suit inside (is_at rows i row here) })
+
+  -- values that are made ready for it
+  pub first_ready : (IsReady : R → V → List Cell → Type 0) (entries : List (Entry V)) → AllByRecursion (λ key. IsReadyAt (IsReady group.reducer) entries key row) (keys_at group i) → AllByRecursion (λ key. IsReadyAt (IsReady first.reducer) entries key row) (get_or first.places i [])
+  first_ready IsReady entries ready =
+      subst (λ own. AllByRecursion (λ key. IsReadyAt (IsReady first.reducer) entries key row) own) own_keys
+      (subst (λ (reducer : R). AllByRecursion (λ key. IsReadyAt (IsReady reducer) entries key row) (keys_at group i)) has.reducer ready)
+
+  pub first_same : (new : Grouped R V) → new.reducer ≡ group.reducer → new.places ≡ group.places → meanings meaning_of new.entries ≡ meanings meaning_of group.entries → HasFirst meaning_of folding first rows counts i new
+  first_same new reducer places means = record {
+    reducer = reducer ∙ has.reducer;
+    places = places ∙ has.places;
+    means = means ∙ has.means;
+  }
+
   -- it may take the row at the place in
-  pub may_take_in : (fits : R → List Column → Bool) → SuitAll (fits first.reducer) rows → length rows ≤ ROWS → i < length rows → slice_get rows i ≡ Some row
+  pub may_take_in : (IsReady : R → V → List Cell → Type 0) (fits : R → List Column → Bool) → SuitAll (fits first.reducer) rows → length rows ≤ ROWS → i < length rows → slice_get rows i ≡ Some row → AllByRecursion (λ key. IsReadyAt (IsReady first.reducer) group.entries key row) (get_or first.places i [])
       → MayChangeAll meaning_of (fits group.reducer) (folding group.reducer) (IsReady group.reducer) (keys_at group i) true row group.entries
-  may_take_in fits suit few inside here =
+  may_take_in IsReady fits suit few inside here ready =
       subst (λ (reducer : R). MayChangeAll meaning_of (fits reducer) (folding reducer) (IsReady reducer) (keys_at group i) true row group.entries) (sym has.reducer)
       (subst (λ own. MayChangeAll meaning_of (fits first.reducer) (folding first.reducer) (IsReady first.reducer) own true row group.entries) (sym own_keys)
-      (may_take (IsReady first.reducer) meaning_of (fits first.reducer) (folding first.reducer) rows first.places counts i row group.entries suit few inside here has.ready has.means))
+      (may_take (IsReady first.reducer) meaning_of (fits first.reducer) (folding first.reducer) rows first.places counts i row group.entries suit few inside here ready has.means))
 
   -- which counts
-  pub first_taken : (undo : R → Meaning → List Cell → Meaning) (calls : Option (V → ℕ)) (new : Grouped R V) → i < length rows → length first.places ≡ length rows → length counts ≡ length rows → slice_get rows i ≡ Some row → get_or counts i false ≡ true
+  pub first_taken : (IsReady : R → V → List Cell → Type 0) (undo : R → Meaning → List Cell → Meaning) (calls : Option (V → ℕ)) (new : Grouped R V) → i < length rows → length first.places ≡ length rows → length counts ≡ length rows → slice_get rows i ≡ Some row → get_or counts i false ≡ true
       → new.reducer ≡ group.reducer → new.places ≡ group.places
       → AreChanged meaning_of (λ meaning. changed_meaning (folding group.reducer) (undo group.reducer) true meaning row) (IsReady group.reducer) calls (keys_at group i) group.entries new.entries
-      → HasFirst meaning_of folding IsReady first rows counts (i + 1) new
-  first_taken undo calls new inside each long here says reducer places changed =
+      → HasFirst meaning_of folding first rows counts (i + 1) new
+  first_taken IsReady undo calls new inside each long here says reducer places changed =
       let took : TookIn meaning_of (folding first.reducer) (undo first.reducer) (IsReady first.reducer) calls row (get_or first.places i []) group.entries new.entries =
       subst (λ own. TookIn meaning_of (folding first.reducer) (undo first.reducer) (IsReady first.reducer) calls row own group.entries new.entries) own_keys
       (subst (λ (reducer : R). TookIn meaning_of (folding reducer) (undo reducer) (IsReady reducer) calls row (keys_at group i) group.entries new.entries) has.reducer changed) in
@@ -381,48 +342,12 @@ module _ {R V Meaning : Type 0} (meaning_of : V → Meaning) (folding : R → Re
         means = took_meanings meaning_of (folding first.reducer) (undo first.reducer) (IsReady first.reducer) calls row (get_or first.places i []) group.entries new.entries took
             ∙ ap (with_row (folding first.reducer) row (get_or first.places i []) true) has.means
             ∙ sym (group_next (folding first.reducer) rows first.places counts i row true inside each long here says);
-        ready = ready_on (IsReady first.reducer) group.entries new.entries rows first.places (took_stay meaning_of (folding first.reducer) (undo first.reducer) (IsReady first.reducer) calls row (get_or first.places i []) group.entries new.entries took) has.ready;
       }
 
   -- which does not count
-  pub first_passed : i < length rows → length first.places ≡ length rows → length counts ≡ length rows → slice_get rows i ≡ Some row → get_or counts i false ≡ false → HasFirst meaning_of folding IsReady first rows counts (i + 1) group
+  pub first_passed : i < length rows → length first.places ≡ length rows → length counts ≡ length rows → slice_get rows i ≡ Some row → get_or counts i false ≡ false → HasFirst meaning_of folding first rows counts (i + 1) group
   first_passed inside each long here says = record {
     reducer = has.reducer;
     places = has.places;
     means = has.means ∙ sym (group_passed (folding first.reducer) rows first.places counts i row inside each long here says);
-    ready = has.ready;
   }
-
--- ---- a group into which places are entered
-
--- one whose places have these keys, and which is ready for their rows and has none
-pub record IsEntered {R V Meaning : Type 0} (meaning_of : V → Meaning) (folding : R → Reducer (List Cell) Meaning) (IsReady : R → V → List Cell → Type 0) (first : R) (rows : List (List Cell)) (keys : List (List Key)) (group : Grouped R V) : Type 0 where
-  pub reducer : group.reducer ≡ first
-  pub places : group.places ≡ keys
-  pub none : meanings meaning_of group.entries ≡ map (λ key. (key, (folding group.reducer).initial)) (keys_in group.places)
-  pub ready : AreReady (IsReady group.reducer) group.entries rows group.places
-
-module _ {R V Meaning : Type 0} (meaning_of : V → Meaning) (folding : R → Reducer (List Cell) Meaning) (IsReady : R → V → List Cell → Type 0) (first : R) where
-  pub entered_none : (group : Grouped R V) → group.reducer ≡ first → group.entries ≡ [] → group.places ≡ [] → IsEntered meaning_of folding IsReady first [] [] group
-  entered_none group reducer entries places = record {
-    reducer = reducer;
-    places = places;
-    none = ap (meanings meaning_of) entries ∙ ap (λ lists. map (λ key. entry key (folding group.reducer).initial) (keys_in lists)) (sym places);
-    ready = subst (AreReady (IsReady group.reducer) group.entries []) (sym places) tt;
-  }
-
-  pub entered_more : (old new : Grouped R V) (rows more : List (List Cell)) (keys others : List (List Key)) → IsEntered meaning_of folding IsReady first rows keys old → new.reducer ≡ old.reducer → new.places ≡ old.places ++ others
-      → meanings meaning_of new.entries ≡ meanings_for meaning_of (folding old.reducer).initial old.entries new.places → AreReady (IsReady old.reducer) new.entries more others → StayReady (IsReady old.reducer) old.entries new.entries
-      → IsEntered meaning_of folding IsReady first (rows ++ more) (keys ++ others) new
-  entered_more old new rows more keys others has reducer places means ready stay = record {
-    reducer = reducer ∙ has.reducer;
-    places = places ∙ ap (λ lists. lists ++ others) has.places;
-    none = entered_nothing meaning_of (folding old.reducer).initial old.entries new.entries (keys_in old.places) new.places has.none means
-        ∙ ap (λ (own : R). map (λ key. entry key (folding own).initial) (keys_in new.places)) (sym reducer);
-    ready = subst (λ (own : R). AreReady (IsReady own) new.entries (rows ++ more) new.places) (sym reducer)
-        (subst (AreReady (IsReady old.reducer) new.entries (rows ++ more)) (sym places) (ready_join (IsReady old.reducer) old.entries new.entries rows more old.places others stay has.ready ready));
-  }
-
--- the keys at the front, and the rest of them
-pub parts_joined : (keys : List (List Key)) (count : ℕ) → take count keys ++ take (length keys - count) (drop count keys) ≡ keys
-parts_joined keys count = ap (λ rest. take count keys ++ rest) (take_rest keys count) ∙ take-append-drop count keys

@@ -1,21 +1,21 @@
 -- What groups and wholes hold after a change of what is kept: where a dimension, a group or a whole comes or goes.
-use Rattle.std.proofs.Common.{◌≡◌, ℕ, ◌==◌, Bool, true, false, List, [], ◌∷◌, ◌++◌, Some, get_or, refl, sym, ap, ◌∙◌, arith}
+use Rattle.std.proofs.Common.{◌≡◌, ℕ, ◌==◌, Bool, true, false, List, [], ◌∷◌, ◌++◌, Some, get_or, slice_get, refl, sym, ap, ◌∙◌, arith}
 use Rattle.std.proofs.lemmas.Bool.Decides.{nat_tests}
 use Rattle.std.proofs.lemmas.List.{get_or-map, length-map, map-append}
 use Rattle.std.proofs.lemmas.List.Quantifiers.{position-Some}
-use Rattle.std.specs.List.{AllByRecursion, filter, position, remove}
+use Rattle.std.specs.List.{AllByRecursion, filter, find, position, remove}
 use Rattle.xf_base.specs.declared.cell.Cell.{Cell}
 use Rattle.xf_base.specs.declared.key.Key.{Key}
 use Rattle.xf_engine.specs.Answers.{entries_at, entries_under}
 use Rattle.xf_engine.specs.Folding.{AreFoldedFor, AreValuesFor, regrouped, revalued}
-use Rattle.xf_engine.specs.Held.{HoldsEntriesOf, HoldsWholeOf, is_elsewhere, live_dimension, live_dimensions, live_groups, state_of}
+use Rattle.xf_engine.specs.Held.{HoldsGroupOf, HoldsWholeOf, is_elsewhere, live_dimension, live_dimensions, live_groups, places_under, state_of}
 use Rattle.xf_engine.specs.State.{LiveDimension, State, dimension_ids, dimension_place, dimensions_of, has_id, is_taken}
 use Rattle.xf_engine.specs.declared.dimension.Dimension.{Dimension}
 use Rattle.xf_engine.specs.declared.events.Events.{Events}
 use Rattle.xf_engine.specs.declared.grouping.Grouping.{Grouping}
 use Rattle.xf_engine.specs.declared.whole.Whole.{Whole}
 use Rattle.xf_engine.proofs.ById.{all-push, all-remove, map-remove}
-use Rattle.xf_engine.proofs.Values.{holds-folded, holds-with_last, holds-without_place, values-folded, values-with_last, values-without_place}
+use Rattle.xf_engine.proofs.Values.{found-placed, holds-folded, holds-with_last, holds-without_place, values-folded, values-with_last, values-without_place}
 use Rattle.xf_filter.specs.declared.filter.Filter.TheVariants.{All}
 use Rattle.xf_group.specs.Group.{Grouped, meanings}
 use Rattle.xf_model.specs.Group.{Reducer, whole_value}
@@ -26,8 +26,8 @@ use Rattle.xf_table.specs.Table.{Contents}
 pub entries-dimension_added : {A G P R V M : Type 0} (keys_of : A → List Cell → List Key) (says : P → Key → Bool) (rounded : G → Key → Key) (meaning_of : V → M) (folding : R → Reducer (List Cell) M) (table : Contents) (dimensions : List (Dimension A P)) (groups : List (Grouping G (Grouped R V))) (wholes : List (Whole R V)) (events : Events) (dimension : Dimension A P)
     → dimension.filter ≡ All → is_taken (dimension_ids (live_dimensions dimensions)) dimension.id.0 ≡ false
     → AllByRecursion (λ group. is_taken (dimension_ids (live_dimensions dimensions)) group.dimension ≡ true) (live_groups groups)
-    → AllByRecursion (HoldsEntriesOf keys_of says rounded meaning_of folding (state_of table dimensions groups wholes events)) groups
-    → AllByRecursion (HoldsEntriesOf keys_of says rounded meaning_of folding (state_of table (dimensions ++ dimension ∷ []) groups wholes events)) groups
+    → AllByRecursion (HoldsGroupOf keys_of says rounded meaning_of folding (state_of table dimensions groups wholes events)) groups
+    → AllByRecursion (HoldsGroupOf keys_of says rounded meaning_of folding (state_of table (dimensions ++ dimension ∷ []) groups wholes events)) groups
 entries-dimension_added keys_of says rounded meaning_of folding table dimensions groups wholes events dimension =
     holds-with_last keys_of says rounded meaning_of folding (state_of table dimensions groups wholes events) (state_of table (dimensions ++ dimension ∷ []) groups wholes events) (live_dimension dimension) groups (map-append live_dimension dimensions (dimension ∷ [])) refl
 
@@ -55,7 +55,7 @@ live-placed dimensions id place d told =
 pub entries-dimension_gone : {A G P R V M : Type 0} (keys_of : A → List Cell → List Key) (says : P → Key → Bool) (rounded : G → Key → Key) (meaning_of : V → M) (folding : R → Reducer (List Cell) M) (table : Contents) (dimensions : List (Dimension A P)) (groups : List (Grouping G (Grouped R V))) (wholes : List (Whole R V)) (events : Events) (id place : ℕ) (d : Dimension A P) (folded : List (Grouped R V))
     → position (has_id id) (live_dimensions dimensions) ≡ Some place → (get_or dimensions place d).filter ≡ All
     → AreFoldedFor keys_of says rounded meaning_of folding (live_dimensions dimensions) table.rows groups folded
-    → AllByRecursion (HoldsEntriesOf keys_of says rounded meaning_of folding (state_of table (remove dimensions place) (filter (is_elsewhere id) (regrouped groups folded)) wholes events)) (filter (is_elsewhere id) (regrouped groups folded))
+    → AllByRecursion (HoldsGroupOf keys_of says rounded meaning_of folding (state_of table (remove dimensions place) (filter (is_elsewhere id) (regrouped groups folded)) wholes events)) (filter (is_elsewhere id) (regrouped groups folded))
 entries-dimension_gone {A} {G} {P} {R} keys_of says rounded meaning_of folding table dimensions groups wholes events id place d folded told free each =
     let before : State A G P R = state_of table dimensions (regrouped groups folded) wholes events in
     let after : State A G P R = state_of table (remove dimensions place) (filter (is_elsewhere id) (regrouped groups folded)) wholes events in
@@ -78,25 +78,31 @@ values-dimension_gone {A} {G} {P} {R} keys_of says meaning_of folding table dime
 
 -- ---- a group or a whole comes
 
--- a group that was folded under the dimension at the place of its own holds its entries
+-- a group that was folded under the dimension at the place of its own holds its places and its entries
 pub holds-group : {A G P R V M : Type 0} (keys_of : A → List Cell → List Key) (says : P → Key → Bool) (rounded : G → Key → Key) (meaning_of : V → M) (folding : R → Reducer (List Cell) M) (state : State A G P R) (rows : List (List Cell)) (own : ℕ) (reducer : R) (group : Grouping G (Grouped R V))
     → dimension_place state group.dimension.0 ≡ Some own → rows ≡ state.rows → group.group.reducer ≡ reducer
+    → group.group.places ≡ places_under keys_of (rounded group.rounding) (slice_get state.dimensions own) rows
     → meanings meaning_of group.group.entries ≡ entries_at keys_of says state.dimensions rows (rounded group.rounding) (folding reducer) own
-    → HoldsEntriesOf keys_of says rounded meaning_of folding state group
-holds-group keys_of says rounded meaning_of folding state rows own reducer group placed same_rows same_reducer entries =
-    entries
-    ∙ ap (λ rs. entries_at keys_of says state.dimensions rs (rounded group.rounding) (folding reducer) own) same_rows
-    ∙ ap (λ r. entries_at keys_of says state.dimensions state.rows (rounded group.rounding) (folding r) own) (sym same_reducer)
-    ∙ ap (entries_under keys_of says state.dimensions state.rows (rounded group.rounding) (folding group.group.reducer)) (sym placed)
+    → HoldsGroupOf keys_of says rounded meaning_of folding state group
+holds-group keys_of says rounded meaning_of folding state rows own reducer group placed same_rows same_reducer places entries = (
+  places
+      ∙ ap (λ found. places_under keys_of (rounded group.rounding) found rows) (found-placed (has_id group.dimension.0) state.dimensions own placed)
+      ∙ ap (places_under keys_of (rounded group.rounding) (find (has_id group.dimension.0) state.dimensions)) same_rows,
+  entries
+      ∙ ap (λ rs. entries_at keys_of says state.dimensions rs (rounded group.rounding) (folding reducer) own) same_rows
+      ∙ ap (λ r. entries_at keys_of says state.dimensions state.rows (rounded group.rounding) (folding r) own) (sym same_reducer)
+      ∙ ap (entries_under keys_of says state.dimensions state.rows (rounded group.rounding) (folding group.group.reducer)) (sym placed),
+)
 
 pub entries-group_added : {A G P R V M : Type 0} (keys_of : A → List Cell → List Key) (says : P → Key → Bool) (rounded : G → Key → Key) (meaning_of : V → M) (folding : R → Reducer (List Cell) M) (table : Contents) (dimensions : List (Dimension A P)) (groups : List (Grouping G (Grouped R V))) (wholes : List (Whole R V)) (events : Events) (rows : List (List Cell)) (own : ℕ) (reducer : R) (group : Grouping G (Grouped R V))
     → position (has_id group.dimension.0) (live_dimensions dimensions) ≡ Some own → rows ≡ table.rows → group.group.reducer ≡ reducer
+    → group.group.places ≡ places_under keys_of (rounded group.rounding) (slice_get (live_dimensions dimensions) own) rows
     → meanings meaning_of group.group.entries ≡ entries_at keys_of says (live_dimensions dimensions) rows (rounded group.rounding) (folding reducer) own
-    → AllByRecursion (HoldsEntriesOf keys_of says rounded meaning_of folding (state_of table dimensions groups wholes events)) groups
-    → AllByRecursion (HoldsEntriesOf keys_of says rounded meaning_of folding (state_of table dimensions (groups ++ group ∷ []) wholes events)) (groups ++ group ∷ [])
-entries-group_added {A} {G} {P} {R} keys_of says rounded meaning_of folding table dimensions groups wholes events rows own reducer group placed same_rows same_reducer entries all =
+    → AllByRecursion (HoldsGroupOf keys_of says rounded meaning_of folding (state_of table dimensions groups wholes events)) groups
+    → AllByRecursion (HoldsGroupOf keys_of says rounded meaning_of folding (state_of table dimensions (groups ++ group ∷ []) wholes events)) (groups ++ group ∷ [])
+entries-group_added {A} {G} {P} {R} keys_of says rounded meaning_of folding table dimensions groups wholes events rows own reducer group placed same_rows same_reducer places entries all =
     let state : State A G P R = state_of table dimensions (groups ++ group ∷ []) wholes events in
-    all-push (HoldsEntriesOf keys_of says rounded meaning_of folding state) groups group all (holds-group keys_of says rounded meaning_of folding state rows own reducer group placed same_rows same_reducer entries)
+    all-push (HoldsGroupOf keys_of says rounded meaning_of folding state) groups group all (holds-group keys_of says rounded meaning_of folding state rows own reducer group placed same_rows same_reducer places entries)
 
 pub values-whole_added : {A G P R V M : Type 0} (keys_of : A → List Cell → List Key) (says : P → Key → Bool) (meaning_of : V → M) (folding : R → Reducer (List Cell) M) (table : Contents) (dimensions : List (Dimension A P)) (groups : List (Grouping G (Grouped R V))) (wholes : List (Whole R V)) (events : Events) (rows : List (List Cell)) (whole : Whole R V)
     → rows ≡ table.rows → meaning_of whole.value ≡ whole_value (folding whole.reducer) (dimensions_of keys_of says (live_dimensions dimensions)) rows
@@ -109,10 +115,10 @@ values-whole_added {A} {G} {P} {R} keys_of says meaning_of folding table dimensi
 -- ---- a group or a whole goes
 
 pub entries-group_gone : {A G P R V M : Type 0} (keys_of : A → List Cell → List Key) (says : P → Key → Bool) (rounded : G → Key → Key) (meaning_of : V → M) (folding : R → Reducer (List Cell) M) (table : Contents) (dimensions : List (Dimension A P)) (groups : List (Grouping G (Grouped R V))) (wholes : List (Whole R V)) (events : Events) (place : ℕ)
-    → AllByRecursion (HoldsEntriesOf keys_of says rounded meaning_of folding (state_of table dimensions groups wholes events)) groups
-    → AllByRecursion (HoldsEntriesOf keys_of says rounded meaning_of folding (state_of table dimensions (remove groups place) wholes events)) (remove groups place)
+    → AllByRecursion (HoldsGroupOf keys_of says rounded meaning_of folding (state_of table dimensions groups wholes events)) groups
+    → AllByRecursion (HoldsGroupOf keys_of says rounded meaning_of folding (state_of table dimensions (remove groups place) wholes events)) (remove groups place)
 entries-group_gone keys_of says rounded meaning_of folding table dimensions groups wholes events place =
-    all-remove (HoldsEntriesOf keys_of says rounded meaning_of folding (state_of table dimensions groups wholes events)) groups place
+    all-remove (HoldsGroupOf keys_of says rounded meaning_of folding (state_of table dimensions groups wholes events)) groups place
 
 pub values-whole_gone : {A G P R V M : Type 0} (keys_of : A → List Cell → List Key) (says : P → Key → Bool) (meaning_of : V → M) (folding : R → Reducer (List Cell) M) (table : Contents) (dimensions : List (Dimension A P)) (groups : List (Grouping G (Grouped R V))) (wholes : List (Whole R V)) (events : Events) (place : ℕ)
     → AllByRecursion (HoldsWholeOf {G = G} keys_of says meaning_of folding (state_of table dimensions groups wholes events)) wholes

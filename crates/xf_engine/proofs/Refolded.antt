@@ -1,19 +1,20 @@
 -- Another filter on one dimension, and groups and wholes with the values that were folded for them: what is asked of a fold, and what is kept after it.
-use Rattle.std.proofs.Common.{◌≡◌, ℕ, zero, suc, ◌+◌, ◌^◌, ◌<◌, ◌≤◌, ◌==◌, nat_lt, Bool, true, not, cond, List, [], ◌∷◌, ◌++◌, None, Some, Result, Ok, Err, OnErr, length, take, drop, get_or, set, slice_get, refl, sym, ap, subst, ◌∙◌, arith}
+use Rattle.std.proofs.Common.{◌≡◌, ℕ, zero, suc, ◌+◌, ◌^◌, ◌<◌, ◌≤◌, ◌==◌, nat_lt, Bool, true, false, not, cond, List, [], ◌∷◌, ◌++◌, None, Some, Result, Ok, Err, OnErr, length, map, take, drop, get_or, set, slice_get, refl, sym, ap, subst, ◌∙◌, arith}
 use Rattle.std.proofs.lemmas.List.{length-map}
 use Rattle.std.proofs.lemmas.Option.{slice_get-get_or}
 use Rattle.std.specs.List.{AllByRecursion, find, position, position_or_len, remove, sum_by}
 use Rattle.std.specs.Option.{option_map}
+use Rattle.xf_base.specs.Key.{key_cmp}
 use Rattle.xf_base.specs.Schema.{IsRowOf}
 use Rattle.xf_base.specs.declared.cell.Cell.{Cell}
 use Rattle.xf_base.specs.declared.column.Column.{Column}
 use Rattle.xf_base.specs.declared.key.Key.{Key}
 use Rattle.xf_base.specs.declared.kind.KeyKind.{KeyKind}
 use Rattle.xf_base.specs.declared.limits.TheConstants.Limits.{ROWS}
-use Rattle.xf_engine.specs.Answers.{moved_to}
+use Rattle.xf_engine.specs.Answers.{keys_under, moved_to}
 use Rattle.xf_engine.specs.Changes.{once_filtered, with_filter}
 use Rattle.xf_engine.specs.Folding.{AreFoldedFor, AreValuesFor, regrouped, revalued}
-use Rattle.xf_engine.specs.Held.{HoldsEntriesOf, HoldsKeysOf, HoldsWholeOf, IsCross, held_ids, held_moved, live_dimension, live_dimensions, live_groups, live_wholes, most_moved, state_of}
+use Rattle.xf_engine.specs.Held.{HoldsGroupOf, HoldsKeysOf, HoldsPlacesOf, HoldsWholeOf, IsCross, held_ids, held_moved, live_dimension, live_dimensions, live_groups, live_wholes, most_moved, state_of}
 use Rattle.xf_engine.specs.Refolded.{AreRegrouped, AreRevalued, filtered_at}
 use Rattle.xf_engine.specs.Refusals.{filter_refusal_of}
 use Rattle.xf_engine.specs.State.{AreDistinct, IsState, LiveDimension, State, dimension_ids, has_id, is_taken}
@@ -33,7 +34,7 @@ use Rattle.xf_filter.specs.Filter.{filter_of}
 use Rattle.xf_filter.specs.declared.filter.Filter.{Filter}
 use Rattle.xf_group.specs.Admitted.{SuitAll}
 use Rattle.xf_group.specs.Group.{Grouped}
-use Rattle.xf_model.specs.Group.{Reducer}
+use Rattle.xf_model.specs.Group.{Reducer, rounded_keys}
 use Rattle.xf_model.specs.Moved.{moved_keys}
 use Rattle.xf_table.specs.Table.{Contents}
 
@@ -175,6 +176,27 @@ pub fold-live : {A G P R V : Type 0} (dimensions : List (Dimension A P)) (groups
 fold-live {A} {G} {P} {R} {V} dimensions groups live =
     subst (λ ids. AllByRecursion {X = Grouping G (Grouped R V)} (λ held. is_taken ids held.dimension.0 ≡ true) groups) (ids-live dimensions) (live-held (dimension_ids (live_dimensions dimensions)) groups live)
 
+pub fold-places : {A G P R V M : Type 0} (keys_of : A → List Cell → List Key) (says : P → Key → Bool) (rounded : G → Key → Key) (meaning_of : V → M) (folding : R → Reducer (List Cell) M) (state : State A G P R) (groups : List (Grouping G (Grouped R V))) → AllByRecursion (HoldsGroupOf keys_of says rounded meaning_of folding state) groups → AllByRecursion (HoldsPlacesOf keys_of rounded state.dimensions state.rows) groups
+fold-places keys_of says rounded meaning_of folding state [] all = tt
+fold-places keys_of says rounded meaning_of folding state (group ∷ groups) all = (all.0.0, fold-places keys_of says rounded meaning_of folding state groups all.1)
+
+-- the keys of rows under a dimension, and so the places of groups, are the same under another filter
+set-keys : {A P : Type 0} (keys_of : A → List Cell → List Key) (id : ℕ) (held : List (Dimension A P)) (place : ℕ) (d : Dimension A P) (new : Filter P) → keys_under keys_of (find (has_id id) (live_dimensions (set held place (record (get_or held place d) { filter = new })))) ≡ keys_under keys_of (find (has_id id) (live_dimensions held))
+set-keys keys_of id [] zero d new = refl
+set-keys keys_of id [] (suc place) d new = refl
+set-keys keys_of id (one ∷ held) zero d new =
+    elim (one.id.0 == id) as (λ b. keys_under keys_of (cond b (Some (live_dimension (record one { filter = new }))) (find (has_id id) (live_dimensions held))) ≡ keys_under keys_of (cond b (Some (live_dimension one)) (find (has_id id) (live_dimensions held)))) [ true ↦ refl | false ↦ refl ]
+set-keys keys_of id (one ∷ held) (suc place) d new =
+    elim (one.id.0 == id) as (λ b. keys_under keys_of (cond b (Some (live_dimension one)) (find (has_id id) (live_dimensions (set held place (record (get_or held place d) { filter = new }))))) ≡ keys_under keys_of (cond b (Some (live_dimension one)) (find (has_id id) (live_dimensions held)))) [ true ↦ refl | false ↦ set-keys keys_of id held place d new ]
+
+pub set-places : {A G P R V : Type 0} (keys_of : A → List Cell → List Key) (rounded : G → Key → Key) (rows : List (List Cell)) (held : List (Dimension A P)) (place : ℕ) (d : Dimension A P) (new : Filter P) (groups : List (Grouping G (Grouped R V))) → AllByRecursion (HoldsPlacesOf keys_of rounded (live_dimensions held) rows) groups
+    → AllByRecursion (HoldsPlacesOf keys_of rounded (live_dimensions (set held place (record (get_or held place d) { filter = new }))) rows) groups
+set-places keys_of rounded rows held place d new [] all = tt
+set-places keys_of rounded rows held place d new (group ∷ groups) all = (
+  all.0 ∙ ap (λ (keys : List Cell → List Key). map (rounded_keys key_cmp (rounded group.rounding) keys) rows) (sym (set-keys keys_of group.dimension.0 held place d new)),
+  set-places keys_of rounded rows held place d new groups all.1,
+)
+
 pub fold-suit : {G R V : Type 0} (suits : R → List Column → Bool) (columns : List Column) (rows : List (List Cell)) (groups : List (Grouping G (Grouped R V))) → AllByRecursion (IsRowOf columns) rows → AllByRecursion (λ group. suits group.reducer columns ≡ true) (live_groups groups) → AllByRecursion (λ held. SuitAll (suits held.group.reducer) rows) groups
 fold-suit suits columns rows [] of fit = tt
 fold-suit suits columns rows (group ∷ groups) of fit = (record { columns = columns; fit = fit.0; of_schema = of }, fold-suit suits columns rows groups of fit.1)
@@ -246,6 +268,6 @@ cross-refolded {A} {G} {P} {R} {V} keys_of fits_to kind_of says keys_in rounded 
     record {
       state = subst (IsState keys_of fits_to kind_of keys_in suits fields) (sym (refolded-state keys_of says rounded meaning_of folding lives rows table dimensions old_groups groups old_wholes wholes events for_groups for_wholes)) sound;
       keys = keys;
-      entries = subst (AllByRecursion (HoldsEntriesOf keys_of says rounded meaning_of folding now)) (sym for_groups.placed) (holds-folded keys_of says rounded meaning_of folding lives rows now old_groups for_groups.values same_lives same_rows for_groups.folded);
+      entries = subst (AllByRecursion (HoldsGroupOf keys_of says rounded meaning_of folding now)) (sym for_groups.placed) (holds-folded keys_of says rounded meaning_of folding lives rows now old_groups for_groups.values same_lives same_rows for_groups.folded);
       values = subst (AllByRecursion (HoldsWholeOf {G = G} keys_of says meaning_of folding now)) (sym for_wholes.placed) (values-folded keys_of says meaning_of folding lives rows now old_wholes for_wholes.values same_lives same_rows for_wholes.folded);
     }

@@ -1,5 +1,5 @@
 -- A key that goes among ascending keys from the first on, and keys that go there from the last on.
-use Rattle.std.proofs.Common.{◌≡◌, ℕ, ◌+◌, ◌<◌, ◌≤◌, List, [], ◌∷◌, ◌++◌, append_assoc, drop, get_or, length, map, slice_get, Some, suc, sym, take, zero, ap, ◌∙◌, arith}
+use Rattle.std.proofs.Common.{◌≡◌, ℕ, ◌+◌, ◌<◌, ◌≤◌, List, [], ◌∷◌, ◌++◌, append_assoc, drop, get_or, length, map, refl, slice_get, Some, suc, sym, take, zero, ap, ◌∙◌, arith}
 use Rattle.std.proofs.lemmas.List.{drop_all, drop_more, length-map, map-append, take-append-drop, take_all, take_more}
 use Rattle.std.specs.Cmp.{IsTotalOrder}
 use Rattle.std.specs.List.{AllByRecursion}
@@ -73,6 +73,12 @@ next_taken : {X : Type 0} (xs : List X) (place : ℕ) (x : X) → Some x ≡ sli
 next_taken [] place x here = absurd cc
 next_taken (y ∷ xs) zero x here = let same : x ≡ y = cc in ap (λ z. z ∷ []) (sym same)
 next_taken (y ∷ xs) (suc place) x here = ap (λ rest. y ∷ rest) (next_taken xs place x here)
+
+-- what stands at a place stands earlier once the first are cut off
+pub slice_get-later : {X : Type 0} (xs : List X) (from place : ℕ) → slice_get xs (from + place) ≡ slice_get (drop from xs) place
+slice_get-later xs zero place = let same : zero + place ≡ place = omega arith in ap (slice_get xs) same
+slice_get-later [] (suc from) place = refl
+slice_get-later (x ∷ xs) (suc from) place = let next : suc from + place ≡ suc (from + place) = omega arith in ap (slice_get (x ∷ xs)) next ∙ slice_get-later xs from place
 
 -- what a function makes of the items so far, and of the next
 pub mapped-next : {X Y : Type 0} (f : X → Y) (xs : List X) (place : ℕ) (x : X) (done more : List Y) (y : Y) → Some x ≡ slice_get xs place → done ≡ map f (take place xs) → y ≡ f x → more ≡ done ++ y ∷ [] → more ≡ map f (take (place + 1) xs)

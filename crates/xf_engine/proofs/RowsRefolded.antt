@@ -8,7 +8,7 @@ use Rattle.xf_base.specs.declared.key.Key.{Key}
 use Rattle.xf_base.specs.declared.kind.KeyKind.{KeyKind}
 use Rattle.xf_engine.specs.Changes.{once_added, once_removed, with_rows}
 use Rattle.xf_engine.specs.Folding.{AreFoldedFor, AreValuesFor, regrouped, revalued}
-use Rattle.xf_engine.specs.Held.{HoldEach, IsCross, held_count, held_ids, kept_keys, live_dimensions, live_groups, more_count, retained_keys, state_of, with_keys_of, with_kept}
+use Rattle.xf_engine.specs.Held.{HoldEach, HoldsPlacesOf, IsCross, held_count, held_ids, kept_keys, live_dimensions, live_groups, more_count, retained_keys, state_of, with_kept, with_keys_of}
 use Rattle.xf_engine.specs.State.{IsState, LiveDimension, State, dimension_ids, is_taken}
 use Rattle.xf_engine.specs.declared.dimension.Dimension.{Dimension}
 use Rattle.xf_engine.specs.declared.events.Events.{Events}
@@ -18,7 +18,7 @@ use Rattle.xf_engine.proofs.Added.{taken-few}
 use Rattle.xf_engine.proofs.HeldCounts.{held-entries, holds-more, more-entries}
 use Rattle.xf_engine.proofs.HeldStates.{folded-reducers, held-regrouped, held-with_rows, keys-unseen}
 use Rattle.xf_engine.proofs.Kept.{kept-takes_back}
-use Rattle.xf_engine.proofs.Refolded.{cross-refolded, fold-live, given-back}
+use Rattle.xf_engine.proofs.Refolded.{cross-refolded, fold-live, fold-places, given-back}
 use Rattle.xf_engine.proofs.Removed.{held-with_kept, holds-kept, removed-count, retained-live, sound-with_kept}
 use Rattle.xf_engine.proofs.Sound.{sound-with_rows}
 use Rattle.xf_group.specs.Group.{Grouped}
@@ -105,6 +105,12 @@ pub added-live : {A G P R V M : Type 0} {keys_of : A → List Cell → List Key}
 added-live {keys_of = keys_of} {held = held} {groups = groups} is rows =
     fold-live (map (with_keys_of keys_of rows) held) groups
     (subst (λ lives. AllByRecursion (λ group. is_taken (dimension_ids lives) group.dimension ≡ true) (live_groups groups)) (sym (keys-unseen keys_of rows held)) is.state.live)
+
+pub added-places : {A G P R V M : Type 0} {keys_of : A → List Cell → List Key} {fits_to : A → List Column → Bool} {kind_of : A → KeyKind} {says : P → Key → Bool} {keys_in : P → List Key} {rounded : G → Key → Key} {suits : R → List Column → Bool} {fields : R → ℕ} {meaning_of : V → M} {folding : R → Reducer (List Cell) M} {table : Contents} {held : List (Dimension A P)} {groups : List (Grouping G (Grouped R V))} {wholes : List (Whole R V)} {events : Events}
+    → IsCross keys_of fits_to kind_of says keys_in rounded suits fields meaning_of folding table held groups wholes events
+    → (rows : List (List Cell)) → AllByRecursion (HoldsPlacesOf keys_of rounded (live_dimensions (map (with_keys_of keys_of rows) held)) table.rows) groups
+added-places {keys_of = keys_of} {says = says} {rounded = rounded} {meaning_of = meaning_of} {folding = folding} {table = table} {held = held} {groups = groups} {wholes = wholes} {events = events} is rows =
+    subst (λ lives. AllByRecursion (HoldsPlacesOf keys_of rounded lives table.rows) groups) (sym (keys-unseen keys_of rows held)) (fold-places keys_of says rounded meaning_of folding (state_of table held groups wholes events) groups is.entries)
 
 -- what is kept with them, with the values that were folded for all, is kept of the state with them
 pub cross-added : {A G P R V M : Type 0} {keys_of : A → List Cell → List Key} {fits_to : A → List Column → Bool} {kind_of : A → KeyKind} {says : P → Key → Bool} {keys_in : P → List Key} {rounded : G → Key → Key} {suits : R → List Column → Bool} {fields : R → ℕ} {meaning_of : V → M} {folding : R → Reducer (List Cell) M} {table : Contents} {held : List (Dimension A P)} {groups : List (Grouping G (Grouped R V))} {wholes : List (Whole R V)} {events : Events}

@@ -11,7 +11,7 @@ use Rattle.xf_base.specs.declared.key.Key.{Key}
 use Rattle.xf_engine.specs.Answers.{entries_under, keys_under}
 use Rattle.xf_engine.specs.Changes.{with_dimension, without_dimension}
 use Rattle.xf_engine.specs.Folding.{AreFoldedFor, AreValuesFor, regrouped, revalued}
-use Rattle.xf_engine.specs.Held.{HoldsEntriesOf, HoldsWholeOf, is_elsewhere, live_groups}
+use Rattle.xf_engine.specs.Held.{HoldsGroupOf, HoldsWholeOf, is_elsewhere, live_groups, places_under}
 use Rattle.xf_engine.specs.State.{AreDistinct, LiveDimension, State, dimension_ids, dimension_of, dimension_place, dimensions_of, has_id, is_taken}
 use Rattle.xf_engine.specs.declared.grouping.Grouping.{Grouping}
 use Rattle.xf_engine.specs.declared.whole.Whole.{Whole}
@@ -27,15 +27,20 @@ use Rattle.xf_engine.proofs.ById.{apart, filter-at, map-remove}
 -- groups that are put in place hold the entries of each state with the dimensions and the rows that they were folded for
 pub holds-folded : {A G P R V M : Type 0} (keys_of : A → List Cell → List Key) (says : P → Key → Bool) (rounded : G → Key → Key) (meaning_of : V → M) (folding : R → Reducer (List Cell) M) (lives : List (LiveDimension A P)) (rows : List (List Cell)) (state : State A G P R) (groups : List (Grouping G (Grouped R V))) (folded : List (Grouped R V))
     → state.dimensions ≡ lives → state.rows ≡ rows → AreFoldedFor keys_of says rounded meaning_of folding lives rows groups folded
-    → AllByRecursion (HoldsEntriesOf keys_of says rounded meaning_of folding state) (regrouped groups folded)
+    → AllByRecursion (HoldsGroupOf keys_of says rounded meaning_of folding state) (regrouped groups folded)
 holds-folded keys_of says rounded meaning_of folding lives rows state [] [] same_dimensions same_rows each = tt
 holds-folded keys_of says rounded meaning_of folding lives rows state [] (value ∷ folded) same_dimensions same_rows each = absurd each
 holds-folded keys_of says rounded meaning_of folding lives rows state (group ∷ groups) [] same_dimensions same_rows each = absurd each
 holds-folded keys_of says rounded meaning_of folding lives rows state (group ∷ groups) (value ∷ folded) same_dimensions same_rows each = (
-  each.0.entries
-      ∙ ap (λ ds. entries_under keys_of says ds rows (rounded group.rounding) (folding group.group.reducer) (position (has_id group.dimension.0) ds)) (sym same_dimensions)
-      ∙ ap (λ rs. entries_under keys_of says state.dimensions rs (rounded group.rounding) (folding group.group.reducer) (position (has_id group.dimension.0) state.dimensions)) (sym same_rows)
-      ∙ ap (λ reducer. entries_under keys_of says state.dimensions state.rows (rounded group.rounding) (folding reducer) (position (has_id group.dimension.0) state.dimensions)) (sym each.0.reducer),
+  (
+    each.0.places
+        ∙ ap (λ ds. places_under keys_of (rounded group.rounding) (find (has_id group.dimension.0) ds) rows) (sym same_dimensions)
+        ∙ ap (places_under keys_of (rounded group.rounding) (find (has_id group.dimension.0) state.dimensions)) (sym same_rows),
+    each.0.entries
+        ∙ ap (λ ds. entries_under keys_of says ds rows (rounded group.rounding) (folding group.group.reducer) (position (has_id group.dimension.0) ds)) (sym same_dimensions)
+        ∙ ap (λ rs. entries_under keys_of says state.dimensions rs (rounded group.rounding) (folding group.group.reducer) (position (has_id group.dimension.0) state.dimensions)) (sym same_rows)
+        ∙ ap (λ reducer. entries_under keys_of says state.dimensions state.rows (rounded group.rounding) (folding reducer) (position (has_id group.dimension.0) state.dimensions)) (sym each.0.reducer),
+  ),
   holds-folded keys_of says rounded meaning_of folding lives rows state groups folded same_dimensions same_rows each.1,
 )
 
@@ -62,13 +67,18 @@ all-then P Q then (x ∷ xs) all = (then x all.0, all-then P Q then xs all.1)
 
 -- groups are held of any other state with these dimensions and rows
 pub holds-same : {A G P R V M : Type 0} (keys_of : A → List Cell → List Key) (says : P → Key → Bool) (rounded : G → Key → Key) (meaning_of : V → M) (folding : R → Reducer (List Cell) M) (state other : State A G P R) (groups : List (Grouping G (Grouped R V)))
-    → other.dimensions ≡ state.dimensions → other.rows ≡ state.rows → AllByRecursion (HoldsEntriesOf keys_of says rounded meaning_of folding state) groups
-    → AllByRecursion (HoldsEntriesOf keys_of says rounded meaning_of folding other) groups
+    → other.dimensions ≡ state.dimensions → other.rows ≡ state.rows → AllByRecursion (HoldsGroupOf keys_of says rounded meaning_of folding state) groups
+    → AllByRecursion (HoldsGroupOf keys_of says rounded meaning_of folding other) groups
 holds-same keys_of says rounded meaning_of folding state other groups same_dimensions same_rows =
-    all-then (HoldsEntriesOf keys_of says rounded meaning_of folding state) (HoldsEntriesOf keys_of says rounded meaning_of folding other)
-    (λ held holds. holds
-    ∙ ap (λ ds. entries_under keys_of says ds state.rows (rounded held.rounding) (folding held.group.reducer) (position (has_id held.dimension.0) ds)) (sym same_dimensions)
-    ∙ ap (λ rs. entries_under keys_of says other.dimensions rs (rounded held.rounding) (folding held.group.reducer) (position (has_id held.dimension.0) other.dimensions)) (sym same_rows))
+    all-then (HoldsGroupOf keys_of says rounded meaning_of folding state) (HoldsGroupOf keys_of says rounded meaning_of folding other)
+    (λ held holds. (
+      holds.0
+          ∙ ap (λ ds. places_under keys_of (rounded held.rounding) (find (has_id held.dimension.0) ds) state.rows) (sym same_dimensions)
+          ∙ ap (places_under keys_of (rounded held.rounding) (find (has_id held.dimension.0) other.dimensions)) (sym same_rows),
+      holds.1
+          ∙ ap (λ ds. entries_under keys_of says ds state.rows (rounded held.rounding) (folding held.group.reducer) (position (has_id held.dimension.0) ds)) (sym same_dimensions)
+          ∙ ap (λ rs. entries_under keys_of says other.dimensions rs (rounded held.rounding) (folding held.group.reducer) (position (has_id held.dimension.0) other.dimensions)) (sym same_rows),
+    ))
     groups
 
 -- so are wholes
@@ -84,8 +94,8 @@ values-same keys_of says meaning_of folding state other wholes same_dimensions s
 
 -- a group that is ranked by another field holds the same entries
 pub holds-ordered : {A G P R V M : Type 0} (keys_of : A → List Cell → List Key) (says : P → Key → Bool) (rounded : G → Key → Key) (meaning_of : V → M) (folding : R → Reducer (List Cell) M) (state : State A G P R) (groups : List (Grouping G (Grouped R V))) (place : ℕ) (d : Grouping G (Grouped R V)) (order : GroupOrder)
-    → AllByRecursion (HoldsEntriesOf keys_of says rounded meaning_of folding state) groups
-    → AllByRecursion (HoldsEntriesOf keys_of says rounded meaning_of folding state) (set groups place (record (get_or groups place d) { order = order }))
+    → AllByRecursion (HoldsGroupOf keys_of says rounded meaning_of folding state) groups
+    → AllByRecursion (HoldsGroupOf keys_of says rounded meaning_of folding state) (set groups place (record (get_or groups place d) { order = order }))
 holds-ordered keys_of says rounded meaning_of folding state [] zero d order all = tt
 holds-ordered keys_of says rounded meaning_of folding state [] (suc place) d order all = tt
 holds-ordered keys_of says rounded meaning_of folding state (group ∷ groups) zero d order all = all
@@ -124,7 +134,7 @@ found-at own (x ∷ xs) zero d within before here = rw here refl
 found-at own (x ∷ xs) (suc place) d within before here =
     rw (before 0 (omega arith)) (found-at own xs place d (omega (arith, within)) (λ k early. before (suc k) (omega (arith, early))) here)
 
-found-placed : {X : Type 0} (own : X → Bool) (xs : List X) (place : ℕ) → position own xs ≡ Some place → slice_get xs place ≡ find own xs
+pub found-placed : {X : Type 0} (own : X → Bool) (xs : List X) (place : ℕ) → position own xs ≡ Some place → slice_get xs place ≡ find own xs
 found-placed own [] place told = refl
 found-placed own (x ∷ xs) place told = let at = position-Some own (x ∷ xs) place x told in found-at own (x ∷ xs) place x at.0 at.2 at.1
 
@@ -232,19 +242,25 @@ find-less own (x ∷ xs) (suc place) d other = ap (cond (own x) (Some x)) (find-
 pub holds-with_last : {A G P R V M : Type 0} (keys_of : A → List Cell → List Key) (says : P → Key → Bool) (rounded : G → Key → Key) (meaning_of : V → M) (folding : R → Reducer (List Cell) M) (state more : State A G P R) (last : LiveDimension A P) (groups : List (Grouping G (Grouped R V)))
     → more.dimensions ≡ state.dimensions ++ last ∷ [] → more.rows ≡ state.rows → last.filter ≡ All → is_taken (dimension_ids state.dimensions) last.id ≡ false
     → AllByRecursion (λ group. is_taken (dimension_ids state.dimensions) group.dimension ≡ true) (live_groups groups)
-    → AllByRecursion (HoldsEntriesOf keys_of says rounded meaning_of folding state) groups
-    → AllByRecursion (HoldsEntriesOf keys_of says rounded meaning_of folding more) groups
+    → AllByRecursion (HoldsGroupOf keys_of says rounded meaning_of folding state) groups
+    → AllByRecursion (HoldsGroupOf keys_of says rounded meaning_of folding more) groups
 holds-with_last keys_of says rounded meaning_of folding state more last [] one_more same_rows free fresh live all = tt
 holds-with_last {A} {G} {P} keys_of says rounded meaning_of folding state more last (group ∷ groups) one_more same_rows free fresh live all =
     let own : LiveDimension A P → Bool = has_id group.dimension.0 in
     let longer : List (LiveDimension A P) = state.dimensions ++ last ∷ [] in
     let other : own last ≡ false = apart last.id group.dimension.0 (dimension_ids state.dimensions) fresh live.0 in (
-      all.0
-          ∙ entries-alike keys_of says state.dimensions longer state.rows (rounded group.rounding) (folding group.group.reducer) own
-          (find-last own state.dimensions last other)
-          (λ row. others-last (passes_live keys_of says row) own state.dimensions last (unfiltered-passes keys_of says row last free))
-          ∙ ap (λ ds. entries_under keys_of says ds state.rows (rounded group.rounding) (folding group.group.reducer) (position own ds)) (sym one_more)
-          ∙ ap (λ rs. entries_under keys_of says more.dimensions rs (rounded group.rounding) (folding group.group.reducer) (position own more.dimensions)) (sym same_rows),
+      (
+        all.0.0
+            ∙ ap (λ found. places_under keys_of (rounded group.rounding) found state.rows) (sym (find-last own state.dimensions last other))
+            ∙ ap (λ ds. places_under keys_of (rounded group.rounding) (find own ds) state.rows) (sym one_more)
+            ∙ ap (places_under keys_of (rounded group.rounding) (find own more.dimensions)) (sym same_rows),
+        all.0.1
+            ∙ entries-alike keys_of says state.dimensions longer state.rows (rounded group.rounding) (folding group.group.reducer) own
+            (find-last own state.dimensions last other)
+            (λ row. others-last (passes_live keys_of says row) own state.dimensions last (unfiltered-passes keys_of says row last free))
+            ∙ ap (λ ds. entries_under keys_of says ds state.rows (rounded group.rounding) (folding group.group.reducer) (position own ds)) (sym one_more)
+            ∙ ap (λ rs. entries_under keys_of says more.dimensions rs (rounded group.rounding) (folding group.group.reducer) (position own more.dimensions)) (sym same_rows),
+      ),
       holds-with_last keys_of says rounded meaning_of folding state more last groups one_more same_rows free fresh live.1 all.1,
     )
 
@@ -266,8 +282,8 @@ values-with_last {A} {G} {P} keys_of says meaning_of folding state more last who
 pub holds-with_dimension : {A G P R V M : Type 0} (keys_of : A → List Cell → List Key) (says : P → Key → Bool) (rounded : G → Key → Key) (meaning_of : V → M) (folding : R → Reducer (List Cell) M) (state : State A G P R) (id : ℕ) (accessor : A) (groups : List (Grouping G (Grouped R V)))
     → is_taken (dimension_ids state.dimensions) id ≡ false
     → AllByRecursion (λ group. is_taken (dimension_ids state.dimensions) group.dimension ≡ true) (live_groups groups)
-    → AllByRecursion (HoldsEntriesOf keys_of says rounded meaning_of folding state) groups
-    → AllByRecursion (HoldsEntriesOf keys_of says rounded meaning_of folding (with_dimension state id accessor)) groups
+    → AllByRecursion (HoldsGroupOf keys_of says rounded meaning_of folding state) groups
+    → AllByRecursion (HoldsGroupOf keys_of says rounded meaning_of folding (with_dimension state id accessor)) groups
 holds-with_dimension keys_of says rounded meaning_of folding state id accessor groups fresh =
     holds-with_last keys_of says rounded meaning_of folding state (with_dimension state id accessor) (record { id = id; accessor = accessor; filter = All }) groups refl refl refl fresh
 
@@ -288,8 +304,8 @@ turned a b apart = grind (arith, nat_tests, apart)
 -- groups of other dimensions hold the entries of a state without the dimension at a place, which has no filter
 pub holds-without_place : {A G P R V M : Type 0} (keys_of : A → List Cell → List Key) (says : P → Key → Bool) (rounded : G → Key → Key) (meaning_of : V → M) (folding : R → Reducer (List Cell) M) (state less : State A G P R) (id place : ℕ) (d : LiveDimension A P) (groups : List (Grouping G (Grouped R V)))
     → less.dimensions ≡ remove state.dimensions place → less.rows ≡ state.rows → (get_or state.dimensions place d).id ≡ id → (get_or state.dimensions place d).filter ≡ All
-    → AllByRecursion (HoldsEntriesOf keys_of says rounded meaning_of folding state) groups
-    → AllByRecursion (HoldsEntriesOf keys_of says rounded meaning_of folding less) (filter (is_elsewhere id) groups)
+    → AllByRecursion (HoldsGroupOf keys_of says rounded meaning_of folding state) groups
+    → AllByRecursion (HoldsGroupOf keys_of says rounded meaning_of folding less) (filter (is_elsewhere id) groups)
 holds-without_place keys_of says rounded meaning_of folding state less id place d [] one_less same_rows here free all = tt
 holds-without_place {A} {G} {P} keys_of says rounded meaning_of folding state less id place d (group ∷ groups) one_less same_rows here free all =
     keep (group.dimension.0 == id) refl (holds-without_place keys_of says rounded meaning_of folding state less id place d groups one_less same_rows here free all.1)
@@ -297,16 +313,22 @@ holds-without_place {A} {G} {P} keys_of says rounded meaning_of folding state le
     own : LiveDimension A P → Bool
     own = has_id group.dimension.0
 
-    keep : (b : Bool) → (group.dimension.0 == id) ≡ b → AllByRecursion (HoldsEntriesOf keys_of says rounded meaning_of folding less) (filter (is_elsewhere id) groups) → AllByRecursion (HoldsEntriesOf keys_of says rounded meaning_of folding less) (cond (not b) (group ∷ filter (is_elsewhere id) groups) (filter (is_elsewhere id) groups))
+    keep : (b : Bool) → (group.dimension.0 == id) ≡ b → AllByRecursion (HoldsGroupOf keys_of says rounded meaning_of folding less) (filter (is_elsewhere id) groups) → AllByRecursion (HoldsGroupOf keys_of says rounded meaning_of folding less) (cond (not b) (group ∷ filter (is_elsewhere id) groups) (filter (is_elsewhere id) groups))
     keep true same rest = rest
     keep false elsewhere rest =
         let other : own (get_or state.dimensions place d) ≡ false = ap (λ n. n == group.dimension.0) here ∙ turned group.dimension.0 id elsewhere in (
-          all.0
-              ∙ entries-alike keys_of says state.dimensions (remove state.dimensions place) state.rows (rounded group.rounding) (folding group.group.reducer) own
-              (find-less own state.dimensions place d other)
-              (λ row. others-less (passes_live keys_of says row) own state.dimensions place d (unfiltered-passes keys_of says row (get_or state.dimensions place d) free) other)
-              ∙ ap (λ ds. entries_under keys_of says ds state.rows (rounded group.rounding) (folding group.group.reducer) (position own ds)) (sym one_less)
-              ∙ ap (λ rs. entries_under keys_of says less.dimensions rs (rounded group.rounding) (folding group.group.reducer) (position own less.dimensions)) (sym same_rows),
+          (
+            all.0.0
+                ∙ ap (λ found. places_under keys_of (rounded group.rounding) found state.rows) (sym (find-less own state.dimensions place d other))
+                ∙ ap (λ ds. places_under keys_of (rounded group.rounding) (find own ds) state.rows) (sym one_less)
+                ∙ ap (places_under keys_of (rounded group.rounding) (find own less.dimensions)) (sym same_rows),
+            all.0.1
+                ∙ entries-alike keys_of says state.dimensions (remove state.dimensions place) state.rows (rounded group.rounding) (folding group.group.reducer) own
+                (find-less own state.dimensions place d other)
+                (λ row. others-less (passes_live keys_of says row) own state.dimensions place d (unfiltered-passes keys_of says row (get_or state.dimensions place d) free) other)
+                ∙ ap (λ ds. entries_under keys_of says ds state.rows (rounded group.rounding) (folding group.group.reducer) (position own ds)) (sym one_less)
+                ∙ ap (λ rs. entries_under keys_of says less.dimensions rs (rounded group.rounding) (folding group.group.reducer) (position own less.dimensions)) (sym same_rows),
+          ),
           rest,
         )
 
@@ -325,8 +347,8 @@ values-without_place keys_of says meaning_of folding state less place d wholes o
 -- so it is of the state without the dimension of an id
 pub holds-without_dimension : {A G P R V M : Type 0} (keys_of : A → List Cell → List Key) (says : P → Key → Bool) (rounded : G → Key → Key) (meaning_of : V → M) (folding : R → Reducer (List Cell) M) (state : State A G P R) (id place : ℕ) (d : LiveDimension A P) (groups : List (Grouping G (Grouped R V)))
     → AreDistinct (dimension_ids state.dimensions) → dimension_place state id ≡ Some place → (get_or state.dimensions place d).filter ≡ All
-    → AllByRecursion (HoldsEntriesOf keys_of says rounded meaning_of folding state) groups
-    → AllByRecursion (HoldsEntriesOf keys_of says rounded meaning_of folding (without_dimension state id)) (filter (is_elsewhere id) groups)
+    → AllByRecursion (HoldsGroupOf keys_of says rounded meaning_of folding state) groups
+    → AllByRecursion (HoldsGroupOf keys_of says rounded meaning_of folding (without_dimension state id)) (filter (is_elsewhere id) groups)
 holds-without_dimension {A} {G} {P} keys_of says rounded meaning_of folding state id place d groups distinct told free =
     let at = position-Some (has_id id) state.dimensions place d told in
     holds-without_place keys_of says rounded meaning_of folding state (without_dimension state id) id place d groups

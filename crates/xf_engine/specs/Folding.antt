@@ -1,13 +1,13 @@
 -- Only proofs and the contracts of private functions need this file: groups and wholes that are folded from nothing.
 use Rattle.std.specs.Prelude.{◌≡◌, ℕ, ℤ, Bool, true, ◌&&◌, not, List, [], ◌∷◌, flat_map, length, Option, map, if◌then◌else◌, slice_index_or, position, ⊤}
-use Rattle.std.specs.List.{AllZip}
+use Rattle.std.specs.List.{AllZip, find}
 use Rattle.xf_base.specs.Gone.{kept}
 use Rattle.xf_base.specs.Key.{key_cmp}
 use Rattle.xf_base.specs.declared.cell.Cell.{Cell}
 use Rattle.xf_base.specs.declared.key.Key.{Key}
 use Rattle.xf_engine.specs.Answers.{entries_under}
 use Rattle.xf_engine.specs.Changes.{unfiltered}
-use Rattle.xf_engine.specs.Held.{passes_each_at}
+use Rattle.xf_engine.specs.Held.{passes_each_at, places_under}
 use Rattle.xf_engine.specs.State.{LiveDimension, dimensions_of, has_id}
 use Rattle.xf_engine.specs.declared.dimension.Dimension.{Dimension}
 use Rattle.xf_engine.specs.declared.folding.Counting.{Counting}
@@ -69,9 +69,10 @@ HasMarks Passing count = ⊤
 HasMarks Every count = ⊤
 HasMarks (Staying gone) count = length gone.now ≡ count
 
--- a group that was folded for one that is held: under the same reducer, with the entries that it has then
+-- a group that was folded for one that is held: under the same reducer, with the places and the entries that it has then
 pub record IsFoldedFor {A G P R V M : Type 0} (keys_of : A → List Cell → List Key) (says : P → Key → Bool) (rounded : G → Key → Key) (meaning_of : V → M) (folding : R → Reducer (List Cell) M) (lives : List (LiveDimension A P)) (rows : List (List Cell)) (held : Grouping G (Grouped R V)) (folded : Grouped R V) : Type 0 where
   pub reducer : folded.reducer ≡ held.group.reducer
+  pub places : folded.places ≡ places_under keys_of (rounded held.rounding) (find (has_id held.dimension.0) lives) rows
   pub entries : meanings meaning_of folded.entries ≡ entries_under keys_of says lives rows (rounded held.rounding) (folding held.group.reducer) (position (has_id held.dimension.0) lives)
 
 abbrev pub AreFoldedFor : {A G P R V M : Type 0} → (A → List Cell → List Key) → (P → Key → Bool) → (G → Key → Key) → (V → M) → (R → Reducer (List Cell) M) → List (LiveDimension A P) → List (List Cell) → List (Grouping G (Grouped R V)) → List (Grouped R V) → Type 0

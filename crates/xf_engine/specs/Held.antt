@@ -1,14 +1,15 @@
 -- Only proofs and the contracts of private functions need this file: what a crossfilter keeps of its dimensions, groups and wholes.
-use Rattle.std.specs.Prelude.{◌≡◌, ◌⊎◌, ℕ, ◌+◌, ◌<◌, ◌==◌, Bool, not, ◌||◌, List, [], ◌++◌, length, map, sum_by, take, unwrap_or, slice_get}
-use Rattle.std.specs.List.{AllByRecursion, list_all, list_any}
+use Rattle.std.specs.Prelude.{◌≡◌, ◌⊎◌, ℕ, ◌+◌, ◌<◌, ◌==◌, Bool, not, ◌||◌, List, [], ◌++◌, Option, length, map, sum_by, take, unwrap_or, slice_get}
+use Rattle.std.specs.List.{AllByRecursion, find, list_all, list_any}
 use Rattle.xf_base.specs.Gone.{kept}
+use Rattle.xf_base.specs.Key.{key_cmp}
 use Rattle.xf_base.specs.declared.cell.Cell.{Cell}
 use Rattle.xf_base.specs.declared.column.Column.{Column}
 use Rattle.xf_base.specs.declared.key.Key.{Key}
 use Rattle.xf_base.specs.declared.kind.KeyKind.{KeyKind}
-use Rattle.xf_engine.specs.Answers.{entries_of, whole_meaning}
+use Rattle.xf_engine.specs.Answers.{entries_of, keys_under, whole_meaning}
 use Rattle.xf_engine.specs.Changes.{once_removed}
-use Rattle.xf_engine.specs.State.{IsState, LiveDimension, LiveGroup, LiveWhole, State, entries_by}
+use Rattle.xf_engine.specs.State.{IsState, LiveDimension, LiveGroup, LiveWhole, State, entries_by, has_id}
 use Rattle.xf_engine.specs.declared.add_refusal.AddRefusal.{AddRefusal}
 use Rattle.xf_engine.specs.declared.add_refusal.AddRefusal.TheVariants.{OutOfMemory, TooManyEntries}
 use Rattle.xf_engine.specs.declared.dimension.Dimension.{Dimension}
@@ -20,7 +21,7 @@ use Rattle.xf_filter.specs.declared.filter.Filter.{Filter}
 use Rattle.xf_filter.specs.declared.filter.Filter.TheVariants.{All}
 use Rattle.xf_group.specs.Group.{Grouped, meanings}
 use Rattle.xf_group.specs.Order.{order_field}
-use Rattle.xf_model.specs.Group.{Reducer}
+use Rattle.xf_model.specs.Group.{Reducer, rounded_keys}
 use Rattle.xf_model.specs.Moved.{moved_keys}
 use Rattle.xf_table.specs.Table.{Contents}
 
@@ -64,20 +65,29 @@ state_of table dimensions groups wholes events = record {
 abbrev pub HoldsKeysOf : {A P : Type 0} → (A → List Cell → List Key) → List (List Cell) → Dimension A P → Type 0
 HoldsKeysOf keys_of rows held = held.keys ≡ map (keys_of held.accessor) rows
 
--- what the entries of a group mean, and what the value of a whole means, are those of the state
-abbrev pub HoldsEntriesOf : {A G P R V M : Type 0} → (A → List Cell → List Key) → (P → Key → Bool) → (G → Key → Key) → (V → M) → (R → Reducer (List Cell) M) → State A G P R → Grouping G (Grouped R V) → Type 0
-HoldsEntriesOf keys_of says rounded meaning_of folding state held =
-    meanings meaning_of held.group.entries ≡ entries_of keys_of says rounded folding state (live_group held)
+-- the rounded keys of each row under a dimension, where it is one
+abbrev pub places_under : {A P : Type 0} → (A → List Cell → List Key) → (Key → Key) → Option (LiveDimension A P) → List (List Cell) → List (List Key)
+places_under keys_of round own rows = map (rounded_keys key_cmp round (keys_under keys_of own)) rows
+
+-- the places of a group are these rows, each with its rounded keys under the group's dimension
+abbrev pub HoldsPlacesOf : {A G P R V : Type 0} → (A → List Cell → List Key) → (G → Key → Key) → List (LiveDimension A P) → List (List Cell) → Grouping G (Grouped R V) → Type 0
+HoldsPlacesOf keys_of rounded lives rows held = held.group.places ≡ places_under keys_of (rounded held.rounding) (find (has_id held.dimension.0) lives) rows
+
+-- the places of a group are the rows of the state, and what its entries mean, and what the value of a whole means, are those of
+-- the state
+abbrev pub HoldsGroupOf : {A G P R V M : Type 0} → (A → List Cell → List Key) → (P → Key → Bool) → (G → Key → Key) → (V → M) → (R → Reducer (List Cell) M) → State A G P R → Grouping G (Grouped R V) → Type 0
+HoldsGroupOf keys_of says rounded meaning_of folding state held =
+    HoldsPlacesOf keys_of rounded state.dimensions state.rows held × (meanings meaning_of held.group.entries ≡ entries_of keys_of says rounded folding state (live_group held))
 
 abbrev pub HoldsWholeOf : {A G P R V M : Type 0} → (A → List Cell → List Key) → (P → Key → Bool) → (V → M) → (R → Reducer (List Cell) M) → State A G P R → Whole R V → Type 0
 HoldsWholeOf keys_of says meaning_of folding state held = meaning_of held.value ≡ whole_meaning keys_of says folding state (live_whole held)
 
--- what a crossfilter keeps: a state, each dimension's keys of each row, and values that mean the folds of the rows that are
--- selected
+-- what a crossfilter keeps: a state, each dimension's keys of each row, each group's places, and values that mean the folds
+-- of the rows that are selected
 pub record IsCross {A G P R V M : Type 0} (keys_of : A → List Cell → List Key) (fits_to : A → List Column → Bool) (kind_of : A → KeyKind) (says : P → Key → Bool) (keys_in : P → List Key) (rounded : G → Key → Key) (suits : R → List Column → Bool) (fields : R → ℕ) (meaning_of : V → M) (folding : R → Reducer (List Cell) M) (table : Contents) (dimensions : List (Dimension A P)) (groups : List (Grouping G (Grouped R V))) (wholes : List (Whole R V)) (events : Events) : Type 0 where
   pub state : IsState keys_of fits_to kind_of keys_in suits fields (state_of table dimensions groups wholes events)
   pub keys : AllByRecursion (HoldsKeysOf keys_of table.rows) dimensions
-  pub entries : AllByRecursion (HoldsEntriesOf keys_of says rounded meaning_of folding (state_of table dimensions groups wholes events)) groups
+  pub entries : AllByRecursion (HoldsGroupOf keys_of says rounded meaning_of folding (state_of table dimensions groups wholes events)) groups
   pub values : AllByRecursion (HoldsWholeOf {G = G} keys_of says meaning_of folding (state_of table dimensions groups wholes events)) wholes
 
 -- the keys that a dimension holds of the row at a place

@@ -1,18 +1,19 @@
 //! One group, or one whole, folded over rows from nothing.
-ghost use Rattle.std.specs.Prelude.{◌≡◌, ◌+◌, ◌++◌, ◌<◌, ◌≤◌, IfOk, OnOk, Some, length, map, slice_get};
-ghost use Rattle.std.specs.List.{AllByRecursion};
-ghost use Rattle.std.specs.List.Sorted.{IsStrictlySortedBy};
+ghost use Rattle.std.specs.Prelude.{◌≡◌, ◌+◌, ◌++◌, ◌<◌, ◌≤◌, IfOk, OnOk, Some, drop, length, map, slice_get};
 ghost use Rattle.xf_base.specs.Key.{key_cmp};
 ghost use Rattle.xf_base.specs.declared.limits.TheConstants.Limits.{ROWS};
 ghost use Rattle.xf_engine.specs.Folding.{counted, folded_entries};
-ghost use Rattle.xf_group.specs.Admitted.{AreReady, SuitAll};
+ghost use Rattle.xf_group.specs.Admitted.{SuitAll};
 ghost use Rattle.xf_group.specs.Group.{keys_in, meanings};
-ghost use Rattle.xf_model.specs.Group.{fold_of};
+ghost use Rattle.xf_model.specs.Group.{distinct_keys, fold_of};
 
+use crate::rounded::rounded_lists;
 use std::alloc::Global;
 use std::sync::ledger::Ledger;
-use xf_base::{KeyList, OutOfMemory, Row, RowList, Steps};
+use xf_access::Rounding;
+use xf_base::{Key, OutOfMemory, Row, RowList, Steps};
 use xf_group::Group;
+use xf_lists::Lists;
 use xf_reduce::Reducer;
 
 /// The rows that are held and those that come after them.
@@ -37,77 +38,54 @@ impl Rows<'_> {
     }
 }
 
-/// A group whose places are rows with these keys, and which has the rows that count.
-pub fn fold_group<R: Reducer, L: Ledger>(
+/// Enters the places of the rows that are added into a group that has no rows yet. `keys` are those of all rows.
+pub fn enter_added<G: Rounding, R: Reducer, L: Ledger>(
     alloc: Global,
-    reducer: R,
+    rounding: &G,
+    keys: &Lists<Key>,
+    group: &mut Group<R>,
     rows: &Rows<'_>,
-    keys: &[KeyList],
-    counts: &[bool],
     steps: &mut Steps<L>,
-) -> Result<Group<R>, OutOfMemory>
-    requires rows { SuitAll (R.fits_to reducer) (rows.now.held.now ++ rows.now.added.now) }
-    requires few { length rows.now.held.now + length rows.now.added.now ≤ ROWS }
+) -> Result<(), OutOfMemory>
+    requires rows { SuitAll (R.fits_to group.old.reducer) (rows.now.held.now ++ rows.now.added.now) }
     requires keys { length keys.now ≡ length rows.now.held.now + length rows.now.added.now }
-    requires ascend { AllByRecursion (IsStrictlySortedBy key_cmp) keys.now }
-    requires counts { length counts.now ≡ length rows.now.held.now + length rows.now.added.now }
-    ensures reducer { IfOk result (λ group. group.reducer ≡ reducer) }
-    ensures places { IfOk result (λ group. group.places ≡ keys.now) }
-    ensures meanings { IfOk result (λ group. meanings R.meaning_of group.entries ≡ folded_entries (R.folding reducer) (rows.now.held.now ++ rows.now.added.now) keys.now counts.now) }
+    requires none { meanings R.meaning_of group.old.entries ≡ map (λ key. (key, (R.folding group.old.reducer).initial)) (keys_in group.old.places) }
+    ensures reducer { OnOk result (group.new.reducer ≡ group.old.reducer) }
+    ensures places { OnOk result (group.new.places ≡ group.old.places ++ map (λ own. distinct_keys key_cmp (map (G.rounded rounding.now) own)) (drop (length rows.now.held.now) keys.now)) }
+    ensures none { OnOk result (meanings R.meaning_of group.new.entries ≡ map (λ key. (key, (R.folding group.new.reducer).initial)) (keys_in group.new.places)) }
 {
-    let mut group = ready_group(alloc, reducer, rows, keys, steps)?;
-    add_rows(&mut group, rows, counts, steps);
-    Ok(group)
+    let lists = rounded_lists(alloc, rounding, keys, rows.held.len())?;
+    group.admit(rows.added, lists.as_slice(), steps)?;
+    Ok(())
 }
 
-/// A group whose places are rows with these keys: it is ready for all and has none yet.
-fn ready_group<R: Reducer, L: Ledger>(
-    alloc: Global,
-    reducer: R,
-    rows: &Rows<'_>,
-    keys: &[KeyList],
-    steps: &mut Steps<L>,
-) -> Result<Group<R>, OutOfMemory>
-    requires rows { SuitAll (R.fits_to reducer) (rows.now.held.now ++ rows.now.added.now) }
-    requires keys { length keys.now ≡ length rows.now.held.now + length rows.now.added.now }
-    requires ascend { AllByRecursion (IsStrictlySortedBy key_cmp) keys.now }
-    ensures reducer { IfOk result (λ group. group.reducer ≡ reducer) }
-    ensures places { IfOk result (λ group. group.places ≡ keys.now) }
-    ensures none { IfOk result (λ group. meanings R.meaning_of group.entries ≡ map (λ key. (key, (R.folding group.reducer).initial)) (keys_in group.places)) }
-    ensures ready { IfOk result (λ group. AreReady (R.IsReady group.reducer) group.entries (rows.now.held.now ++ rows.now.added.now) group.places) }
-{
-    let count = rows.held.len();
-    let mut group = Group::new(alloc, reducer);
-    group.admit(rows.held, &keys[..count], steps)?;
-    group.admit(rows.added, &keys[count..], steps)?;
-    Ok(group)
-}
-
-/// Adds the rows that count to a group that is ready for all and has none.
-fn add_rows<R: Reducer, L: Ledger>(
+/// Adds the rows that count to a group that has the places of all and no rows yet.
+pub fn add_rows<R: Reducer, L: Ledger>(
     group: &mut Group<R>,
     rows: &Rows<'_>,
     counts: &[bool],
     steps: &mut Steps<L>,
-)
+) -> Result<(), OutOfMemory>
     requires rows { SuitAll (R.fits_to group.old.reducer) (rows.now.held.now ++ rows.now.added.now) }
     requires few { length rows.now.held.now + length rows.now.added.now ≤ ROWS }
     requires counts { length counts.now ≡ length rows.now.held.now + length rows.now.added.now }
     requires places { length group.old.places ≡ length rows.now.held.now + length rows.now.added.now }
     requires none { meanings R.meaning_of group.old.entries ≡ map (λ key. (key, (R.folding group.old.reducer).initial)) (keys_in group.old.places) }
-    requires ready { AreReady (R.IsReady group.old.reducer) group.old.entries (rows.now.held.now ++ rows.now.added.now) group.old.places }
-    ensures reducer { group.new.reducer ≡ group.old.reducer }
-    ensures places { group.new.places ≡ group.old.places }
-    ensures meanings { meanings R.meaning_of group.new.entries ≡ folded_entries (R.folding group.old.reducer) (rows.now.held.now ++ rows.now.added.now) group.old.places counts.now }
+    ensures reducer { OnOk result (group.new.reducer ≡ group.old.reducer) }
+    ensures places { OnOk result (group.new.places ≡ group.old.places) }
+    ensures meanings { OnOk result (meanings R.meaning_of group.new.entries ≡ folded_entries (R.folding group.old.reducer) (rows.now.held.now ++ rows.now.added.now) group.old.places counts.now) }
 {
     for place in 0..counts.len() {
         if counts[place] {
-            group.change(place, rows.row(place), true, steps);
+            let row = rows.row(place);
+            group.make_ready(place, row)?;
+            group.change(place, row, true, steps);
         }
     }
+    Ok(())
 }
 
-/// The value of the rows that count; it is made ready for all.
+/// The value of the rows that count.
 pub fn fold_whole<R: Reducer, L: Ledger>(
     alloc: Global,
     reducer: &R,
@@ -125,7 +103,7 @@ pub fn fold_whole<R: Reducer, L: Ledger>(
     Ok(value)
 }
 
-/// Makes the value of no rows ready for all, and adds those that count.
+/// Adds the rows that count to the value of no rows.
 fn take_rows<R: Reducer, L: Ledger>(
     reducer: &R,
     value: &mut R::Value,
@@ -140,9 +118,9 @@ fn take_rows<R: Reducer, L: Ledger>(
     ensures { OnOk result (R.meaning_of value.new ≡ fold_of (R.folding reducer.now) (counted (rows.now.held.now ++ rows.now.added.now) counts.now)) }
 {
     for place in 0..counts.len() {
-        let row = rows.row(place);
-        reducer.prepare(value, row)?;
         if counts[place] {
+            let row = rows.row(place);
+            reducer.prepare(value, row)?;
             reducer.add(value, row, steps);
         }
     }

@@ -1,20 +1,22 @@
 //! All groups and wholes folded anew: what a change of filters or records makes of them. They are put in place only when
 //! all are made.
-ghost use Rattle.std.specs.Prelude.{◌≡◌, ◌++◌, ◌<◌, ◌≤◌, true, IfOk, IfSome, length, map};
+ghost use Rattle.std.specs.Prelude.{◌≡◌, ◌++◌, ◌<◌, ◌≤◌, true, IfOk, IfSome, List, length, map, slice_get};
 ghost use Rattle.std.specs.List.{AllByRecursion, range_with_len};
+ghost use Rattle.xf_base.specs.Key.{key_cmp};
+ghost use Rattle.xf_base.specs.declared.cell.Cell.{Cell};
+ghost use Rattle.xf_base.specs.declared.key.Key.{Key};
 ghost use Rattle.xf_base.specs.declared.limits.TheConstants.Limits.{ROWS};
 ghost use Rattle.xf_engine.specs.Answers.{entries_at};
 ghost use Rattle.xf_engine.specs.Folding.{AreFoldedFor, AreValuesFor, HasMarks, IsFoldedFor, counts_at, dimensions_then, passes_but_at, regrouped, revalued, rows_then};
-ghost use Rattle.xf_engine.specs.Held.{HoldEach, HoldsKeysOf, held_ids, live_dimensions};
+ghost use Rattle.xf_engine.specs.Held.{HoldEach, HoldsKeysOf, HoldsPlacesOf, held_ids, live_dimensions, places_under};
 ghost use Rattle.xf_engine.specs.State.{dimensions_of, is_taken};
 ghost use Rattle.xf_group.specs.Admitted.{SuitAll};
-ghost use Rattle.xf_group.specs.Group.{meanings};
-ghost use Rattle.xf_model.specs.Group.{whole_value};
+ghost use Rattle.xf_group.specs.Group.{keys_in, meanings};
+ghost use Rattle.xf_model.specs.Group.{group_entries, whole_value};
 
 use crate::dimension::{Dimension, dimension_place, passes_each, passes_others};
-use crate::fold::{Rows, fold_group, fold_whole};
+use crate::fold::{Rows, add_rows, enter_added, fold_whole};
 use crate::grouping::{Grouping, regroup};
-use crate::rounded::rounded_lists;
 use crate::whole::{Whole, revalue};
 use std::alloc::Global;
 use std::sync::ledger::Ledger;
@@ -106,8 +108,8 @@ pub struct Folded<R: Reducer> {
     pub wholes: Vec<R::Value>,
 }
 
-/// Folds all groups and wholes over the rows of a table.
-pub fn fold_held<A: Accessor, G: Rounding, P: Predicate, R: Reducer, L: Ledger>(
+/// Folds all groups and wholes anew over the rows of a table: their keys and places stay.
+pub fn refold_values<A: Accessor, G: Rounding, P: Predicate, R: Reducer, L: Ledger>(
     alloc: Global,
     table: &Table,
     dimensions: &[Dimension<A, P>],
@@ -118,6 +120,7 @@ pub fn fold_held<A: Accessor, G: Rounding, P: Predicate, R: Reducer, L: Ledger>(
 ) -> Result<Folded<R>, OutOfMemory>
     requires keys { AllByRecursion (HoldsKeysOf A.keys_of table.now.rows) dimensions.now }
     requires live { AllByRecursion (λ held. is_taken (held_ids dimensions.now) held.dimension.0 ≡ true) groups.now }
+    requires places { AllByRecursion (HoldsPlacesOf A.keys_of G.rounded (live_dimensions dimensions.now) table.now.rows) groups.now }
     requires group_suit { AllByRecursion (λ held. SuitAll (R.fits_to held.group.reducer) table.now.rows) groups.now }
     requires whole_suit { AllByRecursion (λ held. SuitAll (R.fits_to held.reducer) table.now.rows) wholes.now }
     requires few { length table.now.rows ≤ ROWS }
@@ -130,11 +133,11 @@ pub fn fold_held<A: Accessor, G: Rounding, P: Predicate, R: Reducer, L: Ledger>(
         held: table.rows(steps),
         added: &none,
     };
-    fold_all(alloc, dimensions, groups, wholes, &rows, counting, steps)
+    fold_values(alloc, dimensions, groups, wholes, &rows, counting, steps)
 }
 
 /// Puts values in place.
-pub fn put<G, R: Reducer>(
+pub fn put_values<G, R: Reducer>(
     groups: &mut [Grouping<G, Group<R>>],
     wholes: &mut [Whole<R, R::Value>],
     folded: Folded<R>,
@@ -148,8 +151,8 @@ pub fn put<G, R: Reducer>(
     revalue(wholes, folded.wholes);
 }
 
-/// Folds all groups and wholes over rows.
-pub fn fold_all<A: Accessor, G: Rounding, P: Predicate, R: Reducer, L: Ledger>(
+/// Folds all groups and wholes over rows. The groups have the places of those that are held.
+pub fn fold_values<A: Accessor, G: Rounding, P: Predicate, R: Reducer, L: Ledger>(
     alloc: Global,
     dimensions: &[Dimension<A, P>],
     groups: &[Grouping<G, Group<R>>],
@@ -160,6 +163,7 @@ pub fn fold_all<A: Accessor, G: Rounding, P: Predicate, R: Reducer, L: Ledger>(
 ) -> Result<Folded<R>, OutOfMemory>
     requires keys { AllByRecursion (HoldsKeysOf A.keys_of (rows.now.held.now ++ rows.now.added.now)) dimensions.now }
     requires live { AllByRecursion (λ held. is_taken (held_ids dimensions.now) held.dimension.0 ≡ true) groups.now }
+    requires places { AllByRecursion (HoldsPlacesOf A.keys_of G.rounded (live_dimensions dimensions.now) rows.now.held.now) groups.now }
     requires group_suit { AllByRecursion (λ held. SuitAll (R.fits_to held.group.reducer) (rows.now.held.now ++ rows.now.added.now)) groups.now }
     requires whole_suit { AllByRecursion (λ held. SuitAll (R.fits_to held.reducer) (rows.now.held.now ++ rows.now.added.now)) wholes.now }
     requires few { length (rows.now.held.now ++ rows.now.added.now) ≤ ROWS }
@@ -173,7 +177,7 @@ pub fn fold_all<A: Accessor, G: Rounding, P: Predicate, R: Reducer, L: Ledger>(
     })
 }
 
-/// Folds each group over rows, under a copy of its reducer.
+/// Folds each group anew.
 fn fold_groups<A: Accessor, G: Rounding, P: Predicate, R: Reducer, L: Ledger>(
     alloc: Global,
     dimensions: &[Dimension<A, P>],
@@ -184,6 +188,7 @@ fn fold_groups<A: Accessor, G: Rounding, P: Predicate, R: Reducer, L: Ledger>(
 ) -> Result<Vec<Group<R>>, OutOfMemory>
     requires keys { AllByRecursion (HoldsKeysOf A.keys_of (rows.now.held.now ++ rows.now.added.now)) dimensions.now }
     requires live { AllByRecursion (λ held. is_taken (held_ids dimensions.now) held.dimension.0 ≡ true) groups.now }
+    requires places { AllByRecursion (HoldsPlacesOf A.keys_of G.rounded (live_dimensions dimensions.now) rows.now.held.now) groups.now }
     requires suit { AllByRecursion (λ held. SuitAll (R.fits_to held.group.reducer) (rows.now.held.now ++ rows.now.added.now)) groups.now }
     requires few { length (rows.now.held.now ++ rows.now.added.now) ≤ ROWS }
     requires marks { HasMarks counting.now (length (rows.now.held.now ++ rows.now.added.now)) }
@@ -191,13 +196,13 @@ fn fold_groups<A: Accessor, G: Rounding, P: Predicate, R: Reducer, L: Ledger>(
 {
     let mut folded = Vec::with_capacity(alloc, groups.len())?;
     for group in groups {
-        folded.push(fold_again(alloc, dimensions, group, rows, counting, steps)?)?;
+        folded.push(refold_group(alloc, dimensions, group, rows, counting, steps)?)?;
     }
     Ok(folded)
 }
 
-/// Folds a group over rows, under its own dimension and a copy of its reducer.
-fn fold_again<A: Accessor, G: Rounding, P: Predicate, R: Reducer, L: Ledger>(
+/// Folds a group anew: it keeps its keys and the places of the rows that are held.
+fn refold_group<A: Accessor, G: Rounding, P: Predicate, R: Reducer, L: Ledger>(
     alloc: Global,
     dimensions: &[Dimension<A, P>],
     group: &Grouping<G, Group<R>>,
@@ -207,6 +212,7 @@ fn fold_again<A: Accessor, G: Rounding, P: Predicate, R: Reducer, L: Ledger>(
 ) -> Result<Group<R>, OutOfMemory>
     requires keys { AllByRecursion (HoldsKeysOf A.keys_of (rows.now.held.now ++ rows.now.added.now)) dimensions.now }
     requires live { is_taken (held_ids dimensions.now) group.now.dimension.0 ≡ true }
+    requires places { HoldsPlacesOf A.keys_of G.rounded (live_dimensions dimensions.now) rows.now.held.now group.now }
     requires suit { SuitAll (R.fits_to group.now.group.reducer) (rows.now.held.now ++ rows.now.added.now) }
     requires few { length (rows.now.held.now ++ rows.now.added.now) ≤ ROWS }
     requires marks { HasMarks counting.now (length (rows.now.held.now ++ rows.now.added.now)) }
@@ -216,49 +222,79 @@ fn fold_again<A: Accessor, G: Rounding, P: Predicate, R: Reducer, L: Ledger>(
         // The dimension of a live group is live.
         unreachable!()
     };
-    let reducer = group.group.reducer().copy(alloc)?;
-    fold_under(
+    let emptied = group.group.emptied()?;
+    fold_group(
         alloc,
         dimensions,
         own,
         &group.rounding,
-        reducer,
+        emptied,
         rows,
         counting,
         steps,
     )
 }
 
-/// Folds one group over rows, under the dimension at a place.
-pub fn fold_under<A: Accessor, G: Rounding, P: Predicate, R: Reducer, L: Ledger>(
+/// Folds a group that has no rows yet, under the dimension at a place: it has the places of the rows that are held, and
+/// those of the rows that are added enter it.
+pub fn fold_group<A: Accessor, G: Rounding, P: Predicate, R: Reducer, L: Ledger>(
     alloc: Global,
     dimensions: &[Dimension<A, P>],
     own: usize,
     rounding: &G,
-    reducer: R,
+    group: Group<R>,
     rows: &Rows<'_>,
     counting: &Counting<'_>,
     steps: &mut Steps<L>,
 ) -> Result<Group<R>, OutOfMemory>
     requires own { own < length dimensions.now }
     requires keys { AllByRecursion (HoldsKeysOf A.keys_of (rows.now.held.now ++ rows.now.added.now)) dimensions.now }
-    requires suit { SuitAll (R.fits_to reducer) (rows.now.held.now ++ rows.now.added.now) }
+    requires places { group.places ≡ places_under A.keys_of (G.rounded rounding.now) (slice_get (live_dimensions dimensions.now) own) rows.now.held.now }
+    requires none { meanings R.meaning_of group.entries ≡ map (λ key. (key, (R.folding group.reducer).initial)) (keys_in group.places) }
+    requires suit { SuitAll (R.fits_to group.reducer) (rows.now.held.now ++ rows.now.added.now) }
     requires few { length (rows.now.held.now ++ rows.now.added.now) ≤ ROWS }
     requires marks { HasMarks counting.now (length (rows.now.held.now ++ rows.now.added.now)) }
-    ensures reducer { IfOk result (λ group. group.reducer ≡ reducer) }
-    ensures entries { IfOk result (λ group. meanings R.meaning_of group.entries ≡ entries_at A.keys_of P.says_to (dimensions_then counting.now (live_dimensions dimensions.now)) (rows_then counting.now (rows.now.held.now ++ rows.now.added.now)) (G.rounded rounding.now) (R.folding reducer) own) }
+    ensures reducer { IfOk result (λ folded. folded.reducer ≡ group.reducer) }
+    ensures places { IfOk result (λ folded. folded.places ≡ places_under A.keys_of (G.rounded rounding.now) (slice_get (live_dimensions dimensions.now) own) (rows_then counting.now (rows.now.held.now ++ rows.now.added.now))) }
+    ensures entries { IfOk result (λ folded. meanings R.meaning_of folded.entries ≡ entries_at A.keys_of P.says_to (dimensions_then counting.now (live_dimensions dimensions.now)) (rows_then counting.now (rows.now.held.now ++ rows.now.added.now)) (G.rounded rounding.now) (R.folding group.reducer) own) }
 {
-    let count = rows.held.len() + rows.added.len();
-    let keys = rounded_lists(alloc, rounding, &dimensions[own].keys)?;
-    let counts = counts(alloc, dimensions, Some(own), counting, count)?;
-    let mut group = fold_group(
+    let mut group = group;
+    enter_added(
         alloc,
-        reducer,
+        rounding,
+        &dimensions[own].keys,
+        &mut group,
         rows,
-        keys.as_slice(),
-        counts.as_slice(),
         steps,
     )?;
+    count_rows(alloc, dimensions, own, group, rows, counting, steps)
+}
+
+/// Adds the rows that count to a group that has the places of all and no rows yet. The places of rows that are gone go.
+fn count_rows<A: Accessor, P: Predicate, R: Reducer, L: Ledger>(
+    alloc: Global,
+    dimensions: &[Dimension<A, P>],
+    own: usize,
+    group: Group<R>,
+    rows: &Rows<'_>,
+    counting: &Counting<'_>,
+    steps: &mut Steps<L>,
+) -> Result<Group<R>, OutOfMemory>
+    requires own { own < length dimensions.now }
+    requires keys { AllByRecursion (HoldsKeysOf A.keys_of (rows.now.held.now ++ rows.now.added.now)) dimensions.now }
+    requires places { length group.places ≡ length (rows.now.held.now ++ rows.now.added.now) }
+    requires none { meanings R.meaning_of group.entries ≡ map (λ key. (key, (R.folding group.reducer).initial)) (keys_in group.places) }
+    requires suit { SuitAll (R.fits_to group.reducer) (rows.now.held.now ++ rows.now.added.now) }
+    requires few { length (rows.now.held.now ++ rows.now.added.now) ≤ ROWS }
+    requires marks { HasMarks counting.now (length (rows.now.held.now ++ rows.now.added.now)) }
+    ensures reducer { IfOk result (λ folded. folded.reducer ≡ group.reducer) }
+    ensures places { IfOk result (λ folded. folded.places ≡ rows_then counting.now group.places) }
+    ensures entries { IfOk result (λ folded. (keys : List Cell → List Key) → group.places ≡ map keys (rows.now.held.now ++ rows.now.added.now) → meanings R.meaning_of folded.entries ≡ group_entries key_cmp keys (R.folding group.reducer) (dimensions_of A.keys_of P.says_to (dimensions_then counting.now (live_dimensions dimensions.now))) own (rows_then counting.now (rows.now.held.now ++ rows.now.added.now))) }
+{
+    let count = rows.held.len() + rows.added.len();
+    let counts = counts(alloc, dimensions, Some(own), counting, count)?;
+    let mut group = group;
+    add_rows(&mut group, rows, counts.as_slice(), steps)?;
     match counting {
         Counting::Passing => {}
         Counting::Every => {}
@@ -268,7 +304,7 @@ pub fn fold_under<A: Accessor, G: Rounding, P: Predicate, R: Reducer, L: Ledger>
 }
 
 /// Folds one whole over rows.
-pub fn fold_one<A: Accessor, P: Predicate, R: Reducer, L: Ledger>(
+pub fn fold_new_whole<A: Accessor, P: Predicate, R: Reducer, L: Ledger>(
     alloc: Global,
     dimensions: &[Dimension<A, P>],
     reducer: &R,

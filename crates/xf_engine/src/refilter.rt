@@ -1,15 +1,15 @@
-//! Another filter on one dimension, with all groups and wholes folded anew.
+//! Another filter on one dimension, with all groups and wholes folded anew; the keys and places of groups stay.
 ghost use Rattle.std.specs.Prelude.{◌≡◌, ◌<◌, ◌≤◌, ◌^◌, true, IfOk, OnErr, OnOk, Some, length, option_map, slice_get, sum_by};
 ghost use Rattle.std.specs.List.{AllByRecursion};
 ghost use Rattle.xf_base.specs.declared.limits.TheConstants.Limits.{ROWS};
-ghost use Rattle.xf_engine.specs.Held.{HoldsKeysOf, held_ids, held_moved, live_dimensions, most_moved};
+ghost use Rattle.xf_engine.specs.Held.{HoldsKeysOf, HoldsPlacesOf, held_ids, held_moved, live_dimensions, most_moved};
 ghost use Rattle.xf_engine.specs.Refolded.{AreRegrouped, AreRevalued, filtered_at};
 ghost use Rattle.xf_engine.specs.State.{is_taken};
 ghost use Rattle.xf_group.specs.Admitted.{SuitAll};
 
 use crate::counts::moved_count;
 use crate::dimension::Dimension;
-use crate::folding::{Counting, fold_held, put};
+use crate::folding::{Counting, put_values, refold_values};
 use crate::grouping::Grouping;
 use crate::whole::Whole;
 use std::alloc::Global;
@@ -39,6 +39,7 @@ pub fn refilter_at<A: Accessor, G: Rounding, P: Predicate, R: Reducer, L: Ledger
     requires few_rows { length table.now.rows ≤ ROWS }
     requires keys { AllByRecursion (HoldsKeysOf A.keys_of table.now.rows) dimensions.old }
     requires live { AllByRecursion (λ held. is_taken (held_ids dimensions.old) held.dimension.0 ≡ true) groups.old }
+    requires places { AllByRecursion (HoldsPlacesOf A.keys_of G.rounded (live_dimensions dimensions.old) table.now.rows) groups.old }
     requires group_suit { AllByRecursion (λ held. SuitAll (R.fits_to held.group.reducer) table.now.rows) groups.old }
     requires whole_suit { AllByRecursion (λ held. SuitAll (R.fits_to held.reducer) table.now.rows) wholes.old }
     ensures moved { IfOk result (λ moved. option_map (held_moved P.says_to filter) (slice_get dimensions.old place) ≡ Some moved) }
@@ -50,7 +51,7 @@ pub fn refilter_at<A: Accessor, G: Rounding, P: Predicate, R: Reducer, L: Ledger
     ensures same_wholes { OnErr result (wholes.new ≡ wholes.old) }
 {
     let old = replace(&mut dimensions[place].filter, filter);
-    let folded = fold_held(
+    let folded = refold_values(
         alloc,
         table,
         dimensions,
@@ -65,6 +66,6 @@ pub fn refilter_at<A: Accessor, G: Rounding, P: Predicate, R: Reducer, L: Ledger
     };
     let dimension = &dimensions[place];
     let moved = moved_count(&dimension.keys, &old, &dimension.filter);
-    put(groups, wholes, folded);
+    put_values(groups, wholes, folded);
     Ok(moved)
 }

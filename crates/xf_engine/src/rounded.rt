@@ -1,5 +1,5 @@
 //! The keys of rows as a group sees them: rounded, ascending, each once.
-ghost use Rattle.std.specs.Prelude.{◌≡◌, IfOk, OnErr, OnOk, map};
+ghost use Rattle.std.specs.Prelude.{◌≡◌, ◌≤◌, IfOk, OnErr, OnOk, drop, length, map};
 ghost use Rattle.xf_base.specs.Key.{key_cmp};
 ghost use Rattle.xf_model.specs.Group.{distinct_keys, with_key};
 
@@ -42,17 +42,20 @@ fn rounded_keys<G: Rounding>(
     Ok(KeyList::from_vec(rounded))
 }
 
-/// The rounded keys of each row.
+/// The rounded keys of each row from a place on.
 pub fn rounded_lists<G: Rounding>(
     alloc: Global,
     rounding: &G,
     lists: &Lists<Key>,
+    from: usize,
 ) -> Result<Vec<KeyList>, OutOfMemory>
-    ensures { IfOk result (λ v. v.items ≡ map (λ keys. distinct_keys key_cmp (map (G.rounded rounding.now) keys)) lists.now) }
+    requires { from ≤ length lists.now }
+    ensures { IfOk result (λ v. v.items ≡ map (λ keys. distinct_keys key_cmp (map (G.rounded rounding.now) keys)) (drop from lists.now)) }
 {
-    let mut rounded = Vec::with_capacity(alloc, lists.len())?;
-    for place in 0..lists.len() {
-        rounded.push(rounded_keys(alloc, rounding, lists.list(place))?)?;
+    let count = lists.len() - from;
+    let mut rounded = Vec::with_capacity(alloc, count)?;
+    for place in 0..count {
+        rounded.push(rounded_keys(alloc, rounding, lists.list(from + place))?)?;
     }
     Ok(rounded)
 }

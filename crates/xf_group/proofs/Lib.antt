@@ -20,3 +20,4 @@ pub mod Meanings
 pub mod JoinedGroup
 pub mod AdmitUnknown
 pub mod KeptCalls
+pub mod PreparedPlaces

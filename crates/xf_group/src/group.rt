@@ -5,16 +5,18 @@ ghost use Rattle.std.specs.List.Sorted.{IsStrictlySortedBy};
 ghost use Rattle.std.specs.Ordering.{nat_cmp};
 ghost use Rattle.xf_base.specs.Gone.{kept};
 ghost use Rattle.xf_base.specs.Key.{key_cmp};
-ghost use Rattle.xf_group.specs.Admitted.{AreReady, StayReady, StayUncalled, SuitAll};
+ghost use Rattle.xf_group.specs.Admitted.{AreReady, IsReadyAt, StayReady, StayUncalled, SuitAll};
 ghost use Rattle.xf_group.specs.Changed.{AreChanged, IsChanged, MayChange, MayChangeAll, changed_meaning};
 ghost use Rattle.xf_group.specs.ChangedAt.{AreChangedAt, MayChangeAt};
-ghost use Rattle.xf_group.specs.Group.{IsGroup, keys_at, meanings, meanings_for, ranked_positions, value_at};
+ghost use Rattle.xf_group.specs.Group.{IsGroup, keys_at, keys_in, meanings, meanings_for, ranked_positions, value_at};
 ghost use Rattle.xf_group.specs.Ranks.{ranks_at};
 ghost use Rattle.xf_model.specs.Digits.{digits};
 ghost use Rattle.xf_model.specs.Laws.{is_among};
+ghost use Rattle.xf_reduce.specs.Laws.{Suits};
 
 use crate::admit::enter;
 use crate::entry::{Entry, GroupEntry};
+use crate::ready::{empty_entries, prepare_each};
 use crate::search::find;
 use crate::unused::drop_unused;
 use std::alloc::Global;
@@ -173,6 +175,45 @@ impl<R: Reducer> Group<R> {
             return Err(OutOfMemory);
         }
         Ok(())
+    }
+
+    /// A group with the same keys and places, whose values are those of no rows. It takes no step. Only want of memory is an
+    /// error.
+    pub fn emptied(&self) -> Result<Group<R>, OutOfMemory>
+        ensures reducer { IfOk result (λ group. group.reducer ≡ self.now.reducer) }
+        ensures places { IfOk result (λ group. group.places ≡ self.now.places) }
+        ensures none { IfOk result (λ group. meanings R.meaning_of group.entries ≡ map (λ key. (key, (R.folding self.now.reducer).initial)) (keys_in self.now.places)) }
+    {
+        let reducer = self.reducer.copy(self.alloc)?;
+        let entries = empty_entries(self.alloc, &reducer, self.entries.as_slice())?;
+        Ok(Group {
+            alloc: self.alloc,
+            reducer,
+            entries,
+            places: self.places.copy(self.alloc)?,
+            numbers: self.numbers.as_slice().to_vec(self.alloc)?,
+        })
+    }
+
+    /// Makes the value of each key of a place ready for a row, as `admit` did for the row with which the place came. No
+    /// value means anything else, is ready for fewer rows or tells more calls, without memory too. It takes no step. Only
+    /// want of memory is an error.
+    pub fn make_ready(&mut self, place: usize, row: &Row) -> Result<(), OutOfMemory>
+        requires place { place < length self.old.places }
+        requires row { Suits (R.fits_to self.old.reducer) row.now }
+        ensures reducer { self.new.reducer ≡ self.old.reducer }
+        ensures places { self.new.places ≡ self.old.places }
+        ensures ready { OnOk result (AllByRecursion (λ key. IsReadyAt (R.IsReady self.old.reducer) self.new.entries key row.now) (keys_at self.old place)) }
+        ensures meanings { meanings R.meaning_of self.new.entries ≡ meanings R.meaning_of self.old.entries }
+        ensures kept { StayReady (R.IsReady self.old.reducer) self.old.entries self.new.entries }
+        ensures calls { StayUncalled R.calls self.old.entries self.new.entries }
+    {
+        prepare_each(
+            &self.reducer,
+            self.entries.as_mut_slice(),
+            self.places.list(place),
+            row,
+        )
     }
 
     /// Adds the row of a place to the value of each of its keys, or takes it back, at the cost of one step for each key.

@@ -10,6 +10,7 @@ mod admit;
 mod entry;
 mod group;
 mod order;
+mod ready;
 mod search;
 mod unused;
 

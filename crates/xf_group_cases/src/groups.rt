@@ -76,6 +76,22 @@ fn see_few<L: Ledger>(rt: &impl Abort, group: &Group<Evens>, on: bool, steps: &m
     }
 }
 
+/// Makes the count of each key of a place ready for a row.
+fn ready(
+    rt: &impl Abort,
+    schema: &Schema,
+    group: &mut Group<Evens>,
+    place: usize,
+    row: &Row,
+) -> Result<(), OutOfMemory>
+    requires place { place < length group.old.places }
+    ensures places { group.new.places ≡ group.old.places }
+{
+    assert!(rt; Evens.fits(schema));
+    assert!(rt; schema.misfit(row).is_none());
+    group.make_ready(place, row)
+}
+
 /// Adds the row of a place, or takes it back. A row with an even number shows of each count that it is one of rows.
 fn turn<L: Ledger>(
     rt: &impl Abort,
@@ -162,7 +178,7 @@ static TURNS: [Seen; 5] = [
     },
 ];
 
-/// Rows of two carriers that come and go; in the end one carrier has no place any more.
+/// Rows of two carriers that come and go; an emptied group has neither's rows; in the end one carrier has no place any more.
 fn see_turns<L: Ledger>(rt: &impl Abort, alloc: Global, blank: Blank) -> Result<(), Fail>
     requires name { blank.name ≡ L.name }
     requires parts { blank.parts ≡ L.parts }
@@ -176,11 +192,21 @@ fn see_turns<L: Ledger>(rt: &impl Abort, alloc: Global, blank: Blank) -> Result<
     let even = row_of(alloc, 2, 0)?;
     for seen in &TURNS {
         let row = rows.at(seen.place).expect(rt, "no row");
+        ready(rt, &schema, &mut group, seen.place, row)?;
         turn(
             rt, &schema, &mut group, &even, seen.place, row, seen.on, &mut steps,
         );
         see_group(rt, alloc, &group, seen.counts, seen.order, &mut steps)?;
     }
+    let emptied = group.emptied()?;
+    see_group(
+        rt,
+        alloc,
+        &emptied,
+        &[("AA", 0), ("UA", 0)],
+        &[0, 1],
+        &mut steps,
+    )?;
     let gone = Gone::of(alloc, vec![in alloc; false, true, false]?)?;
     assert_eq!(rt; gone.len(), rows.len());
     group.retire(&gone);

@@ -1,7 +1,7 @@
 //! Lists of lists, kept flat.
 ghost use Rattle.xf_base.specs.Gone.{kept};
 ghost use Rattle.xf_lists.specs.Lists.{AreEnds, cut_at, start_of};
-ghost use Rattle.std.specs.Prelude.{◌≡◌, ◌+◌, ◌-◌, ◌<◌, ◌≤◌, ◌^◌, [], ◌∷◌, ◌++◌, OnErr, OnOk, Some, drop, length, map, slice_get, slice_index, sum_by, take};
+ghost use Rattle.std.specs.Prelude.{◌≡◌, ◌+◌, ◌-◌, ◌<◌, ◌≤◌, ◌^◌, [], ◌∷◌, ◌++◌, IfOk, OnErr, OnOk, Some, drop, length, map, slice_get, slice_index, sum_by, take};
 ghost use Rattle.std.specs.List.{AllByRecursion};
 
 use std::alloc::Global;
@@ -109,6 +109,16 @@ impl<T: Drop> Lists<T> {
 }
 
 impl Lists<usize> {
+    /// The same lists once more. Only want of memory is an error.
+    pub fn copy(&self, alloc: Global) -> Result<Lists<usize>, OutOfMemory>
+        ensures { IfOk result (λ copy. copy ≡ self.now) }
+    {
+        Ok(Lists {
+            items: self.items.as_slice().to_vec(alloc)?,
+            ends: self.ends.as_slice().to_vec(alloc)?,
+        })
+    }
+
     /// Puts for each number the one that stands at its place in `numbers`.
     pub fn renumber(&mut self, numbers: &[usize])
         requires { AllByRecursion (AllByRecursion (λ item. item < length numbers.now)) self.old }

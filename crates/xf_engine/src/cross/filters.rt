@@ -8,7 +8,7 @@ use crate::cross::Cross;
 use crate::dimension::Dimension;
 use crate::events::one_more;
 use crate::filter_refusal::FilterRefusal;
-use crate::folding::{Counting, fold_held, put};
+use crate::folding::{Counting, put_values, refold_values};
 use crate::ids::{DimensionId, NoDimension};
 use crate::refilter::refilter_at;
 use std::sync::ledger::Ledger;
@@ -79,7 +79,7 @@ impl<A: Accessor, G: Rounding, P: Predicate, R: Reducer> Cross<A, G, P, R> {
         ensures state { OnOk result (self.new ≡ without_filters self.old) }
         ensures err { OnErr result (self.new ≡ self.old) }
     {
-        let folded = fold_held(
+        let folded = refold_values(
             self.alloc,
             &self.table,
             self.dimensions.as_slice(),
@@ -89,7 +89,7 @@ impl<A: Accessor, G: Rounding, P: Predicate, R: Reducer> Cross<A, G, P, R> {
             steps,
         )?;
         let moved = clear_each(&mut self.dimensions, steps);
-        put(&mut self.groups, &mut self.wholes, folded);
+        put_values(&mut self.groups, &mut self.wholes, folded);
         self.events.filtered = one_more(self.events.filtered);
         Ok(moved)
     }

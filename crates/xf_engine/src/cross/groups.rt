@@ -6,7 +6,7 @@ ghost use Rattle.xf_engine.specs.Folding.{entry_numbers};
 
 use crate::cross::Cross;
 use crate::fold::Rows;
-use crate::folding::{Counting, fold_under};
+use crate::folding::{Counting, fold_group};
 use crate::group_refusal::{GroupListRefusal, GroupRefusal};
 use crate::grouping::{Grouping, free_group_id};
 use crate::ids::{DimensionId, GroupId, NoGroup};
@@ -53,15 +53,16 @@ impl<A: Accessor, G: Rounding, P: Predicate, R: Reducer> Cross<A, G, P, R> {
         let id = free_group_id(self.groups.as_slice());
         let none = RowList::new(self.alloc);
         let rows = Rows {
-            held: self.table.rows(steps),
-            added: &none,
+            held: &none,
+            added: self.table.rows(steps),
         };
-        let group = fold_under(
+        let empty = Group::new(self.alloc, reducer);
+        let group = fold_group(
             self.alloc,
             self.dimensions.as_slice(),
             own,
             &rounding,
-            reducer,
+            empty,
             &rows,
             &Counting::Passing,
             steps,

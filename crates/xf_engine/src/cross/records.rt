@@ -9,7 +9,7 @@ use crate::dimension::Dimension;
 use crate::entries::{add_keys, entry_count, keep_keys};
 use crate::events::one_more;
 use crate::fold::Rows;
-use crate::folding::{Counting, fold_all, put};
+use crate::folding::{Counting, fold_values, put_values};
 use std::alloc::Global;
 use std::sync::ledger::Ledger;
 use xf_access::{Accessor, Rounding};
@@ -38,7 +38,7 @@ impl<A: Accessor, G: Rounding, P: Predicate, R: Reducer> Cross<A, G, P, R> {
         let count = self.table.len();
         let limit = self.table.limits().entries;
         add_entries(self.alloc, &mut self.dimensions, count, limit, &rows)?;
-        let folded = fold_all(
+        let folded = fold_values(
             self.alloc,
             self.dimensions.as_slice(),
             self.groups.as_slice(),
@@ -58,7 +58,7 @@ impl<A: Accessor, G: Rounding, P: Predicate, R: Reducer> Cross<A, G, P, R> {
             keep_keys(&mut self.dimensions, count);
             return Err(AddRefusal::OutOfMemory);
         }
-        put(&mut self.groups, &mut self.wholes, folded);
+        put_values(&mut self.groups, &mut self.wholes, folded);
         self.events.added = one_more(self.events.added);
         Ok(())
     }

@@ -4,7 +4,7 @@ ghost use Rattle.std.specs.Prelude.{◌≡◌, ◌⊎◌, ◌+◌, IfErr, IfOk, 
 use crate::cross::Cross;
 use crate::entries::retain_keys;
 use crate::events::one_more;
-use crate::folding::{Counting, fold_held, put};
+use crate::folding::{Counting, put_values, refold_values};
 use crate::ids::DimensionId;
 use crate::marks::{marks_under, passing_marks};
 use crate::remove_refusal::RemoveRefusal;
@@ -62,7 +62,7 @@ impl<A: Accessor, G: Rounding, P: Predicate, R: Reducer> Cross<A, G, P, R> {
         ensures state { OnOk result (self.new ≡ with_kept gone.now self.old) }
         ensures err { OnErr result (self.new ≡ self.old) }
     {
-        let folded = fold_held(
+        let folded = refold_values(
             self.alloc,
             &self.table,
             self.dimensions.as_slice(),
@@ -74,7 +74,7 @@ impl<A: Accessor, G: Rounding, P: Predicate, R: Reducer> Cross<A, G, P, R> {
         let before = self.table.len();
         retain_keys(&mut self.dimensions, gone);
         self.table.retain(gone);
-        put(&mut self.groups, &mut self.wholes, folded);
+        put_values(&mut self.groups, &mut self.wholes, folded);
         self.events.removed = one_more(self.events.removed);
         Ok((before - self.table.len()) as u64)
     }

@@ -3,7 +3,7 @@ ghost use Rattle.std.specs.Prelude.{◌≡◌, ◌⊎◌, true, IfErr, IfOk, OnE
 
 use crate::cross::Cross;
 use crate::fold::Rows;
-use crate::folding::fold_one;
+use crate::folding::fold_new_whole;
 use crate::ids::{NoWhole, WholeId};
 use crate::whole::{Whole, free_whole_id};
 use crate::whole_refusal::WholeRefusal;
@@ -43,7 +43,7 @@ impl<A: Accessor, G: Rounding, P: Predicate, R: Reducer> Cross<A, G, P, R> {
             held: self.table.rows(steps),
             added: &none,
         };
-        let value = fold_one(
+        let value = fold_new_whole(
             self.alloc,
             self.dimensions.as_slice(),
             &reducer,

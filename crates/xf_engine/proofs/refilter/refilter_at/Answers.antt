@@ -9,13 +9,17 @@ use Rattle.xf_engine.specs.declared.grouping.Grouping.{Grouping}
 use Rattle.xf_group.specs.Group.{Grouped}
 use Rattle.xf_engine.proofs.HeldCounts.{sum-part}
 use Rattle.xf_engine.proofs.HeldStates.{held-restored}
-use Rattle.xf_engine.proofs.Refolded.{filtered-set, folded-length, keys-stay, moved-at, set-ids, values-length}
+use Rattle.xf_engine.proofs.Refolded.{filtered-set, folded-length, keys-stay, moved-at, set-ids, set-places, values-length}
 use Rattle.xf_engine.proofs.refilter.refilter_at.Goals as goal
 
-pub fold_held-folded-requires-clause-live : goal.fold_held-folded-requires-clause-live
-fold_held-folded-requires-clause-live g c =
+pub refold_values-folded-requires-clause-live : goal.refold_values-folded-requires-clause-live
+refold_values-folded-requires-clause-live g c =
     subst (λ ids. AllByRecursion {X = Grouping g.row.G.Denot (Grouped g.row.R.Denot g.row.R-Value.Denot)} (λ held. is_taken ids held.dimension.0 ≡ true) c.args.groups.now)
     (sym (set-ids c.args.dimensions.now c.args.place c.index-dimensions-place.result c.replace-old.new.dest)) c.requires.live
+
+pub refold_values-folded-requires-clause-places : goal.refold_values-folded-requires-clause-places
+refold_values-folded-requires-clause-places g c =
+    set-places g.A.Accessor.keys_of g.G.Rounding.rounded c.args.table.now.rows c.args.dimensions.now c.args.place c.index-dimensions-place.result c.replace-old.new.dest c.args.groups.now c.requires.places
 
 pub returns-in_default-clause-same_filters : goal.returns-in_default-clause-same_filters
 returns-in_default-clause-same_filters g c =
@@ -27,12 +31,12 @@ moved_count-moved-requires g c =
     let same = keys-stay c.args.dimensions.now c.args.place c.index-dimensions-place.result e c.replace-old.new.dest in
     record { few = rw same (omega (arith, sum-part most_moved c.args.dimensions.now c.args.place e c.requires.place, c.requires.few)) }
 
-pub put-requires-clause-groups : goal.put-requires-clause-groups
-put-requires-clause-groups g c =
+pub put_values-requires-clause-groups : goal.put_values-requires-clause-groups
+put_values-requires-clause-groups g c =
     folded-length g.A.Accessor.keys_of g.P.Predicate.says_to g.G.Rounding.rounded g.R.Reducer.meaning_of g.R.Reducer.folding _ c.args.table.now.rows c.args.groups.now c.in-Ok.folded.groups.items c.in-Ok.ensures.groups
 
-pub put-requires-clause-wholes : goal.put-requires-clause-wholes
-put-requires-clause-wholes g c =
+pub put_values-requires-clause-wholes : goal.put_values-requires-clause-wholes
+put_values-requires-clause-wholes g c =
     let held = c.args.dimensions.now in
     let now = set held c.args.place (record (get_or held c.args.place c.index-dimensions-place.result) { filter = c.replace-old.new.dest }) in
     values-length g.A.Accessor.keys_of g.P.Predicate.says_to g.R.Reducer.meaning_of g.R.Reducer.folding (live_dimensions now) c.args.table.now.rows c.args.wholes.now c.in-Ok.folded.wholes.items c.in-Ok.ensures.wholes

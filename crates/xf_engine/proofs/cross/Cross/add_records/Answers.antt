@@ -13,7 +13,7 @@ use Rattle.xf_engine.proofs.Added.{added-rows, refused-rows}
 use Rattle.xf_engine.proofs.HeldCounts.{held-entries, holds-more, more-entries}
 use Rattle.xf_engine.proofs.Passes.{hold_each-rows}
 use Rattle.xf_engine.proofs.Refolded.{fold-suit, fold-whole_suit, folded-length, given-back, on-err, values-length}
-use Rattle.xf_engine.proofs.RowsRefolded.{added-live, cross-added, regrouped-back, revalued-back, sound-added, taken-back, where-done, where-failed}
+use Rattle.xf_engine.proofs.RowsRefolded.{added-live, added-places, cross-added, regrouped-back, revalued-back, sound-added, taken-back, where-done, where-failed}
 use Rattle.xf_group.specs.Admitted.{SuitAll}
 use Rattle.xf_table.specs.Append.{refusal_of}
 use Rattle.xf_table.specs.Table.{with_rows as table_with_rows}
@@ -52,22 +52,29 @@ returns-in_err-add_entries-clause-err g c =
     let same = given-back c.self.inside.dimensions.len items c.add_entries.new.dimensions items (search rules) (c.in_err-add_entries.ensures.same_keys ∙ c.deref_mut.ensures.value) refl in
     on-err c.from_residual.result _ (rw same c.self.view_is)
 
-pub fold_all-folded-requires-clause-keys : goal.fold_all-folded-requires-clause-keys
-fold_all-folded-requires-clause-keys g c =
+pub fold_values-folded-requires-clause-keys : goal.fold_values-folded-requires-clause-keys
+fold_values-folded-requires-clause-keys g c =
     let grown : Dimension g.row.A.Denot g.row.P.Denot → Dimension g.row.A.Denot g.row.P.Denot = with_keys_of g.A.Accessor.keys_of c.args.rows in
     let items = c.self.inside.dimensions.items in
     let whole = given-back c.self.inside.dimensions.len items c.add_entries.new.dimensions (map grown items) (search rules) (c.in_ok-add_entries.ensures.keys ∙ ap (map grown) c.deref_mut.ensures.value) (length-map items grown) in
     rw (c.as_slice.ensures.value, whole, c.rows-2.ensures.rows) (holds-more g.A.Accessor.keys_of c.self.inside.table.rows c.args.rows items c.self.invariant.keys)
 
-pub fold_all-folded-requires-clause-live : goal.fold_all-folded-requires-clause-live
-fold_all-folded-requires-clause-live g c =
+pub fold_values-folded-requires-clause-live : goal.fold_values-folded-requires-clause-live
+fold_values-folded-requires-clause-live g c =
     let grown : Dimension g.row.A.Denot g.row.P.Denot → Dimension g.row.A.Denot g.row.P.Denot = with_keys_of g.A.Accessor.keys_of c.args.rows in
     let items = c.self.inside.dimensions.items in
     let whole = given-back c.self.inside.dimensions.len items c.add_entries.new.dimensions (map grown items) (search rules) (c.in_ok-add_entries.ensures.keys ∙ ap (map grown) c.deref_mut.ensures.value) (length-map items grown) in
     rw (c.as_slice.ensures.value, whole, c.as_slice-2.ensures.value) (added-live c.self.invariant c.args.rows)
 
-pub fold_all-folded-requires-clause-group_suit : goal.fold_all-folded-requires-clause-group_suit
-fold_all-folded-requires-clause-group_suit g c =
+pub fold_values-folded-requires-clause-places : goal.fold_values-folded-requires-clause-places
+fold_values-folded-requires-clause-places g c =
+    let grown : Dimension g.row.A.Denot g.row.P.Denot → Dimension g.row.A.Denot g.row.P.Denot = with_keys_of g.A.Accessor.keys_of c.args.rows in
+    let items = c.self.inside.dimensions.items in
+    let whole = given-back c.self.inside.dimensions.len items c.add_entries.new.dimensions (map grown items) (search rules) (c.in_ok-add_entries.ensures.keys ∙ ap (map grown) c.deref_mut.ensures.value) (length-map items grown) in
+    rw (c.as_slice.ensures.value, whole, c.as_slice-2.ensures.value, c.rows-2.ensures.rows) (added-places c.self.invariant c.args.rows)
+
+pub fold_values-folded-requires-clause-group_suit : goal.fold_values-folded-requires-clause-group_suit
+fold_values-folded-requires-clause-group_suit g c =
     let keys_of = g.A.Accessor.keys_of in
     let suits = g.R.Reducer.fits_to in
     let inside = c.self.inside in
@@ -81,8 +88,8 @@ fold_all-folded-requires-clause-group_suit g c =
     (subst (λ groups. AllByRecursion (λ held. SuitAll (suits held.group.reducer) (inside.table.rows ++ rows)) groups) (sym c.as_slice-2.ensures.value)
     (fold-suit suits inside.table.columns (inside.table.rows ++ rows) inside.groups.items sound.of_schema c.self.invariant.state.group_fit))
 
-pub fold_all-folded-requires-clause-whole_suit : goal.fold_all-folded-requires-clause-whole_suit
-fold_all-folded-requires-clause-whole_suit g c =
+pub fold_values-folded-requires-clause-whole_suit : goal.fold_values-folded-requires-clause-whole_suit
+fold_values-folded-requires-clause-whole_suit g c =
     let keys_of = g.A.Accessor.keys_of in
     let suits = g.R.Reducer.fits_to in
     let inside = c.self.inside in
@@ -96,8 +103,8 @@ fold_all-folded-requires-clause-whole_suit g c =
     (subst (λ wholes. AllByRecursion (λ held. SuitAll (suits held.reducer) (inside.table.rows ++ rows)) wholes) (sym c.as_slice-3.ensures.value)
     (fold-whole_suit suits inside.table.columns (inside.table.rows ++ rows) inside.wholes.items sound.of_schema c.self.invariant.state.whole_fit))
 
-pub fold_all-folded-requires-clause-few : goal.fold_all-folded-requires-clause-few
-fold_all-folded-requires-clause-few g c =
+pub fold_values-folded-requires-clause-few : goal.fold_values-folded-requires-clause-few
+fold_values-folded-requires-clause-few g c =
     let keys_of = g.A.Accessor.keys_of in
     let inside = c.self.inside in
     let rows = c.args.rows in
@@ -166,8 +173,8 @@ returns-then-is_err-clause-err g c =
     let table : c.push.new.self ≡ c.self.inside.table = where-failed c.push.result (c.push.new.self ≡ c.self.inside.table) c.push.ensures.err (sym c.is_err.ensures.value ∙ c.if-is_err.true) in
     rw (table, same) c.self.view_is
 
-pub put-requires-clause-groups : goal.put-requires-clause-groups
-put-requires-clause-groups g c =
+pub put_values-requires-clause-groups : goal.put_values-requires-clause-groups
+put_values-requires-clause-groups g c =
     let lives = live_dimensions c.as_slice.result.now in
     let all = c.rows-2.result.now ++ c.args.rows in
     rw c.deref_mut-2.ensures.value (
@@ -175,8 +182,8 @@ put-requires-clause-groups g c =
     ∙ ap length c.as_slice-2.ensures.value
     )
 
-pub put-requires-clause-wholes : goal.put-requires-clause-wholes
-put-requires-clause-wholes g c =
+pub put_values-requires-clause-wholes : goal.put_values-requires-clause-wholes
+put_values-requires-clause-wholes g c =
     let lives = live_dimensions c.as_slice.result.now in
     let all = c.rows-2.result.now ++ c.args.rows in
     rw c.deref_mut-3.ensures.value (
@@ -197,8 +204,8 @@ invariant_of-self-2 g c =
     let room : sum_by held_count items + more_count keys_of rows items ≤ inside.table.limits.entries =
     subst (λ held. sum_by held_count held + more_count keys_of rows held ≤ inside.table.limits.entries) c.deref_mut.ensures.value (omega (arith, limit, c.in_ok-add_entries.ensures.room)) in
     let whole = given-back inside.dimensions.len items c.add_entries.new.dimensions (map grown items) (search rules) (c.in_ok-add_entries.ensures.keys ∙ ap (map grown) c.deref_mut.ensures.value) (length-map items grown) in
-    let groups = regrouped-back inside.groups.len inside.groups.items c.put.new.groups c.deref_mut-2.result.now folded.groups.items (search rules) c.put.ensures.groups c.deref_mut-2.ensures.value in
-    let wholes = revalued-back inside.wholes.len inside.wholes.items c.put.new.wholes c.deref_mut-3.result.now folded.wholes.items (search rules) c.put.ensures.wholes c.deref_mut-3.ensures.value in
+    let groups = regrouped-back inside.groups.len inside.groups.items c.put_values.new.groups c.deref_mut-2.result.now folded.groups.items (search rules) c.put_values.ensures.groups c.deref_mut-2.ensures.value in
+    let wholes = revalued-back inside.wholes.len inside.wholes.items c.put_values.new.wholes c.deref_mut-3.result.now folded.wholes.items (search rules) c.put_values.ensures.wholes c.deref_mut-3.ensures.value in
     let table : c.push.new.self ≡ table_with_rows inside.table rows = where-done c.push.result (c.push.new.self ≡ table_with_rows inside.table rows) c.push.ensures.ok (sym c.is_err.ensures.value ∙ c.if-is_err.false) in
     rw (table, whole, groups, wholes, c.one_more-self-inside.ensures)
     (cross-added c.self.invariant rows (c.rows-2.result.now ++ rows) c.as_slice.result.now c.as_slice-2.result.now c.as_slice-3.result.now folded.groups.items folded.wholes.items none room
@@ -217,8 +224,8 @@ returns-clause-ok g c =
     let room : sum_by held_count items + more_count keys_of rows items ≤ inside.table.limits.entries =
     subst (λ held. sum_by held_count held + more_count keys_of rows held ≤ inside.table.limits.entries) c.deref_mut.ensures.value (omega (arith, limit, c.in_ok-add_entries.ensures.room)) in
     let whole = given-back inside.dimensions.len items c.add_entries.new.dimensions (map grown items) (search rules) (c.in_ok-add_entries.ensures.keys ∙ ap (map grown) c.deref_mut.ensures.value) (length-map items grown) in
-    let groups = regrouped-back inside.groups.len inside.groups.items c.put.new.groups c.deref_mut-2.result.now folded.groups.items (search rules) c.put.ensures.groups c.deref_mut-2.ensures.value in
-    let wholes = revalued-back inside.wholes.len inside.wholes.items c.put.new.wholes c.deref_mut-3.result.now folded.wholes.items (search rules) c.put.ensures.wholes c.deref_mut-3.ensures.value in
+    let groups = regrouped-back inside.groups.len inside.groups.items c.put_values.new.groups c.deref_mut-2.result.now folded.groups.items (search rules) c.put_values.ensures.groups c.deref_mut-2.ensures.value in
+    let wholes = revalued-back inside.wholes.len inside.wholes.items c.put_values.new.wholes c.deref_mut-3.result.now folded.wholes.items (search rules) c.put_values.ensures.wholes c.deref_mut-3.ensures.value in
     let table : c.push.new.self ≡ table_with_rows inside.table rows = where-done c.push.result (c.push.new.self ≡ table_with_rows inside.table rows) c.push.ensures.ok (sym c.is_err.ensures.value ∙ c.if-is_err.false) in
     rw (table, whole, groups, wholes, c.one_more-self-inside.ensures, ← c.self.view_is)
     (cross-added c.self.invariant rows (c.rows-2.result.now ++ rows) c.as_slice.result.now c.as_slice-2.result.now c.as_slice-3.result.now folded.groups.items folded.wholes.items none room

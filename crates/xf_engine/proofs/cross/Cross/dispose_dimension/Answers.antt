@@ -1,13 +1,13 @@
 -- The dimension's filter is taken away, all values are folded anew, and then the dimension goes with its groups.
 use Rattle.std.proofs.Common.{rules, ◌≡◌, inr, option_map, length, slice_get, refl, sym, ap, ◌∙◌, arith}
 use Rattle.std.specs.List.{filter, remove}
-use Rattle.xf_engine.specs.Held.{held_moved, is_elsewhere, live_dimensions}
+use Rattle.xf_engine.specs.Held.{held_moved, is_elsewhere, live_dimensions, state_of}
 use Rattle.xf_engine.specs.Refolded.{AreRegrouped, AreRevalued, filtered_at}
 use Rattle.xf_engine.specs.State.{dimension_place, has_id}
 use Rattle.xf_filter.specs.declared.filter.Filter.TheVariants.{All}
 use Rattle.xf_engine.proofs.Disposed.{cross-disposed, disposed-state}
 use Rattle.xf_engine.proofs.Named.{find-unplaced}
-use Rattle.xf_engine.proofs.Refolded.{are_regrouped-length, are_revalued-length, dimension-within, filtered_at-length, fold-live, fold-suit, fold-whole_suit, given-back, moved-few, moved-named, on-err, remove-filtered}
+use Rattle.xf_engine.proofs.Refolded.{are_regrouped-length, are_revalued-length, dimension-within, filtered_at-length, fold-live, fold-places, fold-suit, fold-whole_suit, given-back, moved-few, moved-named, on-err, remove-filtered}
 use Rattle.xf_engine.proofs.cross.Cross.dispose_dimension.Goals as goal
 
 pub returns-in_default-clause-refused : goal.returns-in_default-clause-refused
@@ -24,6 +24,11 @@ refilter_at-requires-clause-few g c =
 
 pub refilter_at-requires-clause-live : goal.refilter_at-requires-clause-live
 refilter_at-requires-clause-live g c = rw (c.deref_mut.ensures.value, c.deref_mut-2.ensures.value) (fold-live c.self.inside.dimensions.items c.self.inside.groups.items c.self.invariant.state.live)
+
+pub refilter_at-requires-clause-places : goal.refilter_at-requires-clause-places
+refilter_at-requires-clause-places g c =
+    rw (c.deref_mut.ensures.value, c.deref_mut-2.ensures.value)
+    (fold-places g.A.Accessor.keys_of g.P.Predicate.says_to g.G.Rounding.rounded g.R.Reducer.meaning_of g.R.Reducer.folding (state_of c.self.inside.table c.self.inside.dimensions.items c.self.inside.groups.items c.self.inside.wholes.items c.self.inside.events) c.self.inside.groups.items c.self.invariant.entries)
 
 pub refilter_at-requires-clause-group_suit : goal.refilter_at-requires-clause-group_suit
 refilter_at-requires-clause-group_suit g c =

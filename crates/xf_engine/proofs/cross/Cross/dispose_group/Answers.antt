@@ -1,5 +1,5 @@
 use Rattle.std.proofs.Common.{option_map, sym, ap, subst, ◌∙◌, arith}
-use Rattle.xf_engine.specs.Held.{HoldsEntriesOf, live_group, state_of}
+use Rattle.xf_engine.specs.Held.{HoldsGroupOf, live_group, state_of}
 use Rattle.xf_engine.specs.Refusals.{no_group, unless_none}
 use Rattle.xf_engine.specs.State.{IsState, group_has_id, group_place}
 use Rattle.xf_engine.proofs.Answered.{no-group}
@@ -31,7 +31,7 @@ invariant_of-self g c =
     rw c.remove.ensures.items (record {
       state = subst (IsState g.A.Accessor.keys_of g.A.Accessor.fits_to g.A.Accessor.kind_of g.P.Predicate.keys_in g.R.Reducer.fits_to g.R.Reducer.field_count) (sym held) (sound-without_group g.A.Accessor.keys_of g.A.Accessor.fits_to g.A.Accessor.kind_of g.P.Predicate.keys_in g.R.Reducer.fits_to g.R.Reducer.field_count here c.args.id.0 c.self.invariant.state);
       keys = c.self.invariant.keys;
-      entries = all-remove (HoldsEntriesOf g.A.Accessor.keys_of g.P.Predicate.says_to g.G.Rounding.rounded g.R.Reducer.meaning_of g.R.Reducer.folding here) groups c.in-Some.place c.self.invariant.entries;
+      entries = all-remove (HoldsGroupOf g.A.Accessor.keys_of g.P.Predicate.says_to g.G.Rounding.rounded g.R.Reducer.meaning_of g.R.Reducer.folding here) groups c.in-Some.place c.self.invariant.entries;
       values = c.self.invariant.values;
     })
 

@@ -1,6 +1,6 @@
 use Rattle.std.proofs.Common.{Some, option_map, refl, sym, ap, ◌∙◌}
 use Rattle.xf_engine.specs.Answers.{entries_of}
-use Rattle.xf_engine.specs.Held.{HoldsEntriesOf, live_group, state_of}
+use Rattle.xf_engine.specs.Held.{HoldsGroupOf, live_group, state_of}
 use Rattle.xf_engine.specs.State.{LiveGroup, group_has_id, group_place}
 use Rattle.xf_engine.proofs.Lookups.{group-within, held-at}
 use Rattle.xf_engine.proofs.Named.{find-placed-group, find-unplaced}
@@ -18,10 +18,10 @@ returns-in-Some-clause-meanings g c =
     let groups = c.self.inside.groups.items in
     let here = state_of c.self.inside.table c.self.inside.dimensions.items groups c.self.inside.wholes.items c.self.inside.events in
     let named = find-placed-group c.args.id.0 groups c.in-Some.place c.index.result.now told ∙ ap (λ d. Some (live_group d)) (sym c.index.ensures) in
-    let holds = held-at (HoldsEntriesOf g.A.Accessor.keys_of g.P.Predicate.says_to g.G.Rounding.rounded g.R.Reducer.meaning_of g.R.Reducer.folding here) groups c.in-Some.place c.index.result.now c.self.invariant.entries (group-within c.args.id.0 groups c.in-Some.place told) c.index.ensures in
+    let holds = held-at (HoldsGroupOf g.A.Accessor.keys_of g.P.Predicate.says_to g.G.Rounding.rounded g.R.Reducer.meaning_of g.R.Reducer.folding here) groups c.in-Some.place c.index.result.now c.self.invariant.entries (group-within c.args.id.0 groups c.in-Some.place told) c.index.ensures in
     rw (← c.self.view_is) (
     ap (option_map (λ own. entries_of g.A.Accessor.keys_of g.P.Predicate.says_to g.G.Rounding.rounded g.R.Reducer.folding here own)) named
-    ∙ ap Some (sym holds)
+    ∙ ap Some (sym holds.1)
     )
 
 pub returns-in-None-clause-refused : goal.returns-in-None-clause-refused

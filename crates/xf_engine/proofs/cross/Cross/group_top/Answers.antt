@@ -2,7 +2,7 @@ use Rattle.std.proofs.Common.{◌≡◌, ℕ, ◌<◌, inr, Some, IfSome, flat_m
 use Rattle.std.specs.List.{AllByRecursion}
 use Rattle.std.specs.Option.{option_to_list}
 use Rattle.xf_engine.specs.Folding.{entry_numbers}
-use Rattle.xf_engine.specs.Held.{HoldsEntriesOf, live_group, state_of}
+use Rattle.xf_engine.specs.Held.{HoldsGroupOf, live_group, state_of}
 use Rattle.xf_engine.specs.State.{LiveGroup, group_has_id, group_named, group_place}
 use Rattle.xf_group.specs.Order.{order_field}
 use Rattle.xf_engine.proofs.EntryAnswers.{first_entries, first_positions-within, top-answer}
@@ -43,7 +43,7 @@ returns-clause-entries g c =
     let d = c.index.result.now in
     let entries = d.group.entries in
     let named = find-placed-group c.args.id.0 groups c.in-Some.place d told ∙ ap (λ d. Some (live_group d)) (sym c.index.ensures) in
-    let holds = held-at (HoldsEntriesOf g.A.Accessor.keys_of g.P.Predicate.says_to g.G.Rounding.rounded g.R.Reducer.meaning_of g.R.Reducer.folding here) groups c.in-Some.place d c.self.invariant.entries (group-within c.args.id.0 groups c.in-Some.place told) c.index.ensures in
+    let holds = held-at (HoldsGroupOf g.A.Accessor.keys_of g.P.Predicate.says_to g.G.Rounding.rounded g.R.Reducer.meaning_of g.R.Reducer.folding here) groups c.in-Some.place d c.self.invariant.entries (group-within c.args.id.0 groups c.in-Some.place told) c.index.ensures in
     let rank = λ (field : ℕ) (value : g.row.R-Value.Denot). g.R.Reducer.rank_of d.group.reducer (g.R.Reducer.meaning_of value) field in
     let numbers : c.in_ok-numbers_at.field-0.items ≡ entry_numbers (rank c.args.field) (first_entries (rank (order_field d.order)) c.args.k entries) =
     c.in_ok-numbers_at.ensures

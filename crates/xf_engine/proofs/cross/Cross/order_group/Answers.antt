@@ -1,5 +1,5 @@
 use Rattle.std.proofs.Common.{option_map, IfSome, set, sym, ap, subst, ◌∙◌, arith, ◌<◌}
-use Rattle.xf_engine.specs.Held.{HoldsEntriesOf, live_group, state_of}
+use Rattle.xf_engine.specs.Held.{HoldsGroupOf, live_group, state_of}
 use Rattle.xf_engine.specs.Refusals.{no_group, unless_none}
 use Rattle.xf_engine.specs.State.{IsState, group_has_id, group_named, group_place}
 use Rattle.xf_engine.specs.declared.grouping.Grouping.{Grouping}
@@ -38,7 +38,7 @@ invariant_of-self g c =
     let d = c.index_mut.result.now in
     let own = Grouping g.row.G.Denot (Grouped g.row.R.Denot g.row.R-Value.Denot) in
     let sound = IsState g.A.Accessor.keys_of g.A.Accessor.fits_to g.A.Accessor.kind_of g.P.Predicate.keys_in g.R.Reducer.fits_to g.R.Reducer.field_count in
-    let holds = HoldsEntriesOf g.A.Accessor.keys_of g.P.Predicate.says_to g.G.Rounding.rounded g.R.Reducer.meaning_of g.R.Reducer.folding here in
+    let holds = HoldsGroupOf g.A.Accessor.keys_of g.P.Predicate.says_to g.G.Rounding.rounded g.R.Reducer.meaning_of g.R.Reducer.folding here in
     let now = ap {A = own} (λ x. record x { order = c.args.order }) c.index_mut.ensures.value in
     let field = subst (λ s. IfSome (group_named s c.args.id.0) (λ group. order_field c.args.order < g.R.Reducer.field_count group.reducer)) (sym c.self.view_is) c.requires in
     record {

@@ -1,25 +1,30 @@
 -- What is left are the rows that are not gone, with their keys and with the values that were folded for them.
 use Rattle.std.proofs.Common.{rules, ◌≡◌, length, map, sym, ap, subst, ◌∙◌, arith}
 use Rattle.std.proofs.lemmas.List.{length-map}
-use Rattle.xf_engine.specs.Held.{HoldEach, live_dimensions, retained_keys}
+use Rattle.xf_engine.specs.Held.{HoldEach, live_dimensions, retained_keys, state_of}
 use Rattle.xf_engine.specs.State.{State}
 use Rattle.xf_engine.proofs.Passes.{hold_each-rows}
-use Rattle.xf_engine.proofs.Refolded.{fold-live, fold-suit, fold-whole_suit, folded-length, given-back, values-length}
+use Rattle.xf_engine.proofs.Refolded.{fold-live, fold-places, fold-suit, fold-whole_suit, folded-length, given-back, values-length}
 use Rattle.xf_engine.proofs.Removed.{kept-fewer}
 use Rattle.xf_engine.proofs.RowsRefolded.{cross-retained, regrouped-back, revalued-back}
 use Rattle.xf_base.specs.Gone.{kept}
 use Rattle.xf_table.specs.Table.{Contents}
 use Rattle.xf_engine.proofs.cross.Cross.remove.Goals as goal
 
-pub fold_held-requires-clause-live : goal.fold_held-requires-clause-live
-fold_held-requires-clause-live g c = rw (c.as_slice.ensures.value, c.as_slice-2.ensures.value) (fold-live c.self.inside.dimensions.items c.self.inside.groups.items c.self.invariant.state.live)
+pub refold_values-requires-clause-live : goal.refold_values-requires-clause-live
+refold_values-requires-clause-live g c = rw (c.as_slice.ensures.value, c.as_slice-2.ensures.value) (fold-live c.self.inside.dimensions.items c.self.inside.groups.items c.self.invariant.state.live)
 
-pub fold_held-requires-clause-group_suit : goal.fold_held-requires-clause-group_suit
-fold_held-requires-clause-group_suit g c =
+pub refold_values-requires-clause-places : goal.refold_values-requires-clause-places
+refold_values-requires-clause-places g c =
+    rw (c.as_slice.ensures.value, c.as_slice-2.ensures.value)
+    (fold-places g.A.Accessor.keys_of g.P.Predicate.says_to g.G.Rounding.rounded g.R.Reducer.meaning_of g.R.Reducer.folding (state_of c.self.inside.table c.self.inside.dimensions.items c.self.inside.groups.items c.self.inside.wholes.items c.self.inside.events) c.self.inside.groups.items c.self.invariant.entries)
+
+pub refold_values-requires-clause-group_suit : goal.refold_values-requires-clause-group_suit
+refold_values-requires-clause-group_suit g c =
     rw c.as_slice-2.ensures.value (fold-suit g.R.Reducer.fits_to c.self.inside.table.columns c.self.inside.table.rows c.self.inside.groups.items c.self.invariant.state.of_schema c.self.invariant.state.group_fit)
 
-pub fold_held-requires-clause-whole_suit : goal.fold_held-requires-clause-whole_suit
-fold_held-requires-clause-whole_suit g c =
+pub refold_values-requires-clause-whole_suit : goal.refold_values-requires-clause-whole_suit
+refold_values-requires-clause-whole_suit g c =
     rw c.as_slice-3.ensures.value (fold-whole_suit g.R.Reducer.fits_to c.self.inside.table.columns c.self.inside.table.rows c.self.inside.wholes.items c.self.invariant.state.of_schema c.self.invariant.state.whole_fit)
 
 pub retain_keys-requires : goal.retain_keys-requires
@@ -28,8 +33,8 @@ retain_keys-requires g c =
     let marks : length c.self.inside.table.rows ≡ length c.args.gone.now = ap (λ (s : State _ _ _ _). length s.rows) c.self.view_is ∙ sym c.requires in
     rw c.deref_mut.ensures.value (subst (λ count. HoldEach count items) marks (hold_each-rows g.A.Accessor.keys_of c.self.inside.table.rows items c.self.invariant.keys))
 
-pub put-requires-clause-groups : goal.put-requires-clause-groups
-put-requires-clause-groups g c =
+pub put_values-requires-clause-groups : goal.put_values-requires-clause-groups
+put_values-requires-clause-groups g c =
     let lives = live_dimensions c.as_slice.result.now in
     let rows = kept c.args.gone.now c.self.inside.table.rows in
     rw c.deref_mut-2.ensures.value (
@@ -37,8 +42,8 @@ put-requires-clause-groups g c =
     ∙ ap length c.as_slice-2.ensures.value
     )
 
-pub put-requires-clause-wholes : goal.put-requires-clause-wholes
-put-requires-clause-wholes g c =
+pub put_values-requires-clause-wholes : goal.put_values-requires-clause-wholes
+put_values-requires-clause-wholes g c =
     let lives = live_dimensions c.as_slice.result.now in
     let rows = kept c.args.gone.now c.self.inside.table.rows in
     rw c.deref_mut-3.ensures.value (
@@ -57,8 +62,8 @@ invariant_of-self g c =
     let items = inside.dimensions.items in
     let folded = c.in_ok-folded.folded in
     let dimensions = given-back inside.dimensions.len items c.retain_keys.new.dimensions (map (retained_keys gone) items) (search rules) (c.retain_keys.ensures ∙ ap (map (retained_keys gone)) c.deref_mut.ensures.value) (length-map items (retained_keys gone)) in
-    let groups = regrouped-back inside.groups.len inside.groups.items c.put.new.groups c.deref_mut-2.result.now folded.groups.items (search rules) c.put.ensures.groups c.deref_mut-2.ensures.value in
-    let wholes = revalued-back inside.wholes.len inside.wholes.items c.put.new.wholes c.deref_mut-3.result.now folded.wholes.items (search rules) c.put.ensures.wholes c.deref_mut-3.ensures.value in
+    let groups = regrouped-back inside.groups.len inside.groups.items c.put_values.new.groups c.deref_mut-2.result.now folded.groups.items (search rules) c.put_values.ensures.groups c.deref_mut-2.ensures.value in
+    let wholes = revalued-back inside.wholes.len inside.wholes.items c.put_values.new.wholes c.deref_mut-3.result.now folded.wholes.items (search rules) c.put_values.ensures.wholes c.deref_mut-3.ensures.value in
     rw (c.retain.ensures, dimensions, groups, wholes, c.one_more-self-inside.ensures)
     (cross-retained c.self.invariant gone c.as_slice.result.now c.as_slice-2.result.now c.as_slice-3.result.now folded.groups.items folded.wholes.items c.as_slice.ensures.value c.as_slice-2.ensures.value c.as_slice-3.ensures.value c.in_ok-folded.ensures.groups c.in_ok-folded.ensures.wholes).0
 
@@ -73,7 +78,7 @@ returns-clause-state g c =
     let items = inside.dimensions.items in
     let folded = c.in_ok-folded.folded in
     let dimensions = given-back inside.dimensions.len items c.retain_keys.new.dimensions (map (retained_keys gone) items) (search rules) (c.retain_keys.ensures ∙ ap (map (retained_keys gone)) c.deref_mut.ensures.value) (length-map items (retained_keys gone)) in
-    let groups = regrouped-back inside.groups.len inside.groups.items c.put.new.groups c.deref_mut-2.result.now folded.groups.items (search rules) c.put.ensures.groups c.deref_mut-2.ensures.value in
-    let wholes = revalued-back inside.wholes.len inside.wholes.items c.put.new.wholes c.deref_mut-3.result.now folded.wholes.items (search rules) c.put.ensures.wholes c.deref_mut-3.ensures.value in
+    let groups = regrouped-back inside.groups.len inside.groups.items c.put_values.new.groups c.deref_mut-2.result.now folded.groups.items (search rules) c.put_values.ensures.groups c.deref_mut-2.ensures.value in
+    let wholes = revalued-back inside.wholes.len inside.wholes.items c.put_values.new.wholes c.deref_mut-3.result.now folded.wholes.items (search rules) c.put_values.ensures.wholes c.deref_mut-3.ensures.value in
     rw (c.retain.ensures, dimensions, groups, wholes, c.one_more-self-inside.ensures, ← c.self.view_is)
     (cross-retained c.self.invariant gone c.as_slice.result.now c.as_slice-2.result.now c.as_slice-3.result.now folded.groups.items folded.wholes.items c.as_slice.ensures.value c.as_slice-2.ensures.value c.as_slice-3.ensures.value c.in_ok-folded.ensures.groups c.in_ok-folded.ensures.wholes).1

@@ -1,11 +1,11 @@
 -- The dimension has the new filter, and all values are those that were folded under it.
 use Rattle.std.proofs.Common.{rules, ◌≡◌, option_map, slice_get, refl, sym, ap, ◌∙◌}
 use Rattle.xf_engine.specs.Changes.{once_filtered}
-use Rattle.xf_engine.specs.Held.{held_moved, live_dimensions}
+use Rattle.xf_engine.specs.Held.{held_moved, live_dimensions, state_of}
 use Rattle.xf_engine.specs.Refolded.{AreRegrouped, AreRevalued, filtered_at}
 use Rattle.xf_engine.specs.Refusals.{filter_refusal_of}
 use Rattle.xf_engine.specs.State.{dimension_place}
-use Rattle.xf_engine.proofs.Refolded.{are_regrouped-length, are_revalued-length, cross-refolded, dimension-within, filtered-keys, filtered-sound, filtered-state, filtered_at-length, fold-live, fold-suit, fold-whole_suit, given-back, moved-few, moved-named, on-err, refolded-state}
+use Rattle.xf_engine.proofs.Refolded.{are_regrouped-length, are_revalued-length, cross-refolded, dimension-within, filtered-keys, filtered-sound, filtered-state, filtered_at-length, fold-live, fold-places, fold-suit, fold-whole_suit, given-back, moved-few, moved-named, on-err, refolded-state}
 use Rattle.xf_engine.proofs.cross.Cross.set_filter.Goals as goal
 
 pub refilter_at-requires-clause-place : goal.refilter_at-requires-clause-place
@@ -19,6 +19,11 @@ refilter_at-requires-clause-few g c =
 
 pub refilter_at-requires-clause-live : goal.refilter_at-requires-clause-live
 refilter_at-requires-clause-live g c = rw (c.deref_mut.ensures.value, c.deref_mut-2.ensures.value) (fold-live c.self.inside.dimensions.items c.self.inside.groups.items c.self.invariant.state.live)
+
+pub refilter_at-requires-clause-places : goal.refilter_at-requires-clause-places
+refilter_at-requires-clause-places g c =
+    rw (c.deref_mut.ensures.value, c.deref_mut-2.ensures.value)
+    (fold-places g.A.Accessor.keys_of g.P.Predicate.says_to g.G.Rounding.rounded g.R.Reducer.meaning_of g.R.Reducer.folding (state_of c.self.inside.table c.self.inside.dimensions.items c.self.inside.groups.items c.self.inside.wholes.items c.self.inside.events) c.self.inside.groups.items c.self.invariant.entries)
 
 pub refilter_at-requires-clause-group_suit : goal.refilter_at-requires-clause-group_suit
 refilter_at-requires-clause-group_suit g c =

@@ -9,7 +9,7 @@ use Rattle.xf_engine.specs.Held.{live_dimensions}
 use Rattle.xf_engine.specs.State.{dimensions_of}
 use Rattle.xf_engine.specs.declared.folding.Counting.TheVariants.{Passing}
 use Rattle.xf_engine.proofs.FoldingEntries.{counted-then}
-use Rattle.xf_engine.proofs.folding.fold_one.Goals as goal
+use Rattle.xf_engine.proofs.folding.fold_new_whole.Goals as goal
 use Rattle.xf_model.specs.Group.{fold_of, whole_value}
 
 pub fold_whole-requires-clause-counts : goal.fold_whole-requires-clause-counts
