@@ -6,4 +6,4 @@ mod key;
 mod number;
 mod row;
 mod steps;
-mod word;
+mod written;

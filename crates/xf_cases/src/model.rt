@@ -7,10 +7,11 @@ use xf_model::{
     plain_bottom, plain_top, selected, whole_count,
 };
 
-/// Rows of two columns, a range on the first, and what must be seen then.
+/// Rows, a range on the first column in the place of an older one, and what must be seen then.
 struct Example {
     name: &'static str,
-    rows: &'static [(i64, i64)],
+    rows: &'static [&'static [i64]],
+    old: Option<PlainRange>,
     range: PlainRange,
     /// How many rows the range moves.
     moved: u64,
@@ -20,10 +21,11 @@ struct Example {
     entries: [&'static [(i64, u64)]; 2],
 }
 
-static EXAMPLES: [Example; 2] = [
+static EXAMPLES: [Example; 6] = [
     Example {
         name: "counts but for the own filter",
-        rows: &[(1, 10), (2, 20), (2, 30)],
+        rows: &[&[1, 10], &[2, 20], &[2, 30]],
+        old: None,
         range: PlainRange { low: 2, high: 3 },
         moved: 1,
         passing: 2,
@@ -32,20 +34,65 @@ static EXAMPLES: [Example; 2] = [
     Example {
         name: "delays and distances",
         rows: FLIGHTS,
-        range: PlainRange { low: 0, high: 7 },
+        old: None,
+        range: SHORT,
         moved: 3,
         passing: 1,
-        entries: [&[(-5, 1), (0, 1), (7, 2)], &[(100, 0), (200, 1), (300, 0)]],
+        entries: [DELAYS, &[(100, 0), (200, 1), (300, 0)]],
+    },
+    Example {
+        name: "a range that is widened",
+        rows: FLIGHTS,
+        old: Some(SHORT),
+        range: WIDE,
+        moved: 2,
+        passing: 3,
+        entries: [DELAYS, &[(100, 1), (200, 1), (300, 1)]],
+    },
+    Example {
+        name: "a range that is emptied",
+        rows: FLIGHTS,
+        old: Some(WIDE),
+        range: EMPTY,
+        moved: 3,
+        passing: 0,
+        entries: [DELAYS, &[(100, 0), (200, 0), (300, 0)]],
+    },
+    Example {
+        name: "a range whose ends are reversed",
+        rows: FLIGHTS,
+        old: Some(EMPTY),
+        range: PlainRange { low: 8, high: 0 },
+        moved: 0,
+        passing: 0,
+        entries: [DELAYS, &[(100, 0), (200, 0), (300, 0)]],
+    },
+    Example {
+        name: "a row without a key, which only no range lets pass",
+        rows: &[&[]],
+        old: None,
+        range: PlainRange { low: 0, high: 9 },
+        moved: 1,
+        passing: 0,
+        entries: [&[], &[]],
     },
 ];
 
 /// A delay and a distance each.
-const FLIGHTS: &[(i64, i64)] = &[(-5, 100), (0, 200), (7, 100), (7, 300)];
+const FLIGHTS: &[&[i64]] = &[&[-5, 100], &[0, 200], &[7, 100], &[7, 300]];
 
-fn rows_of(alloc: Global, pairs: &[(i64, i64)]) -> Result<Vec<Vec<i64>>, AllocError> {
+const DELAYS: &[(i64, u64)] = &[(-5, 1), (0, 1), (7, 2)];
+
+const SHORT: PlainRange = PlainRange { low: 0, high: 7 };
+
+const WIDE: PlainRange = PlainRange { low: 0, high: 8 };
+
+const EMPTY: PlainRange = PlainRange { low: 7, high: 7 };
+
+fn rows_of(alloc: Global, cells: &[&[i64]]) -> Result<Vec<Vec<i64>>, AllocError> {
     let mut rows = Vec::new(alloc);
-    for pair in pairs {
-        rows.push(vec![in alloc; pair.0, pair.1]?)?;
+    for row in cells {
+        rows.push(row.to_vec(alloc)?)?;
     }
     Ok(rows)
 }
@@ -59,6 +106,17 @@ fn are_of(entries: &[PlainEntry], want: &[(i64, u64)]) -> bool {
         .iter()
         .zip(want)
         .all(|pair| pair.0.key == pair.1.0 && pair.0.number == pair.1.1)
+}
+
+/// How many rows pass each dimension.
+fn passing_rows(dimensions: &[PlainDimension], rows: &[Vec<i64>]) -> u64 {
+    let mut count: u64 = 0;
+    for row in rows {
+        if passes_each(dimensions, row.as_slice()) {
+            count = count.saturating_add(1);
+        }
+    }
+    count
 }
 
 /// Compares what the plain functions give of an example's rows with what must be seen.
@@ -75,9 +133,12 @@ fn see(
         range: None,
     };
     let both = [PlainDimension { column: 0, range }, second];
-    let is_moved = moved(0, None, range, rows) == example.moved;
+    let is_moved = moved(0, example.old, range, rows) == example.moved;
+    let is_same = moved(0, range, range, rows) == 0;
+    assert!(rt; is_moved && is_same, "{name}");
+    let is_counted = whole_count(&both, rows) == example.passing;
     assert!(rt;
-        is_moved && whole_count(&both, rows) == example.passing,
+        is_counted && passing_rows(&both, rows) == example.passing,
         "{name}"
     );
     let passing = selected(alloc, &both, None, rows)?.len() as u64;
@@ -102,51 +163,39 @@ fn worked_examples(rt: HostRuntime) -> Result<(), Fail> {
     Ok(())
 }
 
-/// A range, how many rows it moves in the place of the one before, and how many pass.
-static BRUSHES: [(PlainRange, u64, u64); 4] = [
-    (PlainRange { low: 0, high: 7 }, 3, 1),
-    (PlainRange { low: 0, high: 8 }, 2, 3),
-    (PlainRange { low: 7, high: 7 }, 3, 0),
-    (PlainRange { low: 8, high: 0 }, 0, 0),
+/// Values with the places of their rows.
+static VALUES: [&[i64]; 5] = [&[5, 0], &[1, 1], &[9, 2], &[1, 3], &[5, 4]];
+
+/// A range of places, how many rows are asked for after how many, those from the least value on, and from the greatest.
+static LISTS: [(Option<PlainRange>, usize, usize, &[usize], &[usize]); 4] = [
+    (None, 2, 0, &[1, 3], &[2, 4]),
+    (None, 3, 0, &[1, 3, 0], &[2, 4, 0]),
+    (None, 2, 1, &[3, 0], &[4, 0]),
+    (
+        Some(PlainRange { low: 0, high: 4 }),
+        3,
+        0,
+        &[1, 3, 0],
+        &[2, 0, 3],
+    ),
 ];
 
 #[test]
-fn moves_a_brush_over_delays(rt: HostRuntime) -> Result<(), Fail> {
-    let rows = rows_of(rt.alloc(), FLIGHTS)?;
+fn lists_the_least_and_the_greatest(rt: HostRuntime) -> Result<(), Fail> {
+    let rows = rows_of(rt.alloc(), &VALUES)?;
     let rows = rows.as_slice();
-    let mut old = None;
-    for (new, moves, passing) in &BRUSHES {
-        let range = Some(*new);
-        let delay = [PlainDimension { column: 0, range }];
-        let is_moved = moved(0, old, range, rows) == *moves;
-        assert!(rt;
-            is_moved && whole_count(&delay, rows) == *passing,
-            "at {new:?}"
-        );
-        old = range;
-    }
-    Ok(())
-}
-
-#[test]
-fn takes_rows_without_a_key(rt: HostRuntime) -> Result<(), Fail> {
-    let rows = vec![in rt.alloc(); Vec::new(rt.alloc())]?;
-    let rows = rows.as_slice();
-    let range = Some(PlainRange { low: 0, high: 9 });
-    let none = [PlainDimension {
+    let value = PlainDimension {
         column: 0,
         range: None,
-    }];
-    assert!(rt; passes_each(&none, &[]), "no range lets it pass");
-    assert!(rt;
-        !passes_each(&[PlainDimension { column: 0, range }], &[]),
-        "a range does not"
-    );
-    assert!(rt; moved(0, None, range, rows) == 1, "a range moves it");
-    assert!(rt;
-        moved(0, range, range, rows) == 0,
-        "the same range does not"
-    );
+    };
+    for (range, count, offset, least, greatest) in &LISTS {
+        let range = *range;
+        let both = [value, PlainDimension { column: 1, range }];
+        let found = plain_bottom(rt.alloc(), &both, value, *count, *offset, rows)?;
+        assert_eq!(rt; found.as_slice(), *least);
+        let found = plain_top(rt.alloc(), &both, value, *count, *offset, rows)?;
+        assert_eq!(rt; found.as_slice(), *greatest);
+    }
     Ok(())
 }
 
@@ -160,31 +209,5 @@ fn gives_distinct_keys(rt: HostRuntime) -> Result<(), Fail> {
     laws::least_keys::<u8, u8>();
     laws::moved_keys::<u8, u8>();
     laws::replayed_lines::<u8, u8, u8, u8>();
-    Ok(())
-}
-
-/// Values with the places of their rows.
-static VALUES: [(i64, i64); 5] = [(5, 0), (1, 1), (9, 2), (1, 3), (5, 4)];
-
-#[test]
-fn lists_the_least_and_the_greatest(rt: HostRuntime) -> Result<(), Fail> {
-    let alloc = rt.alloc();
-    let rows = rows_of(alloc, &VALUES)?;
-    let value = PlainDimension {
-        column: 0,
-        range: None,
-    };
-    let least = plain_bottom(alloc, &[value], value, 2, 0, rows.as_slice())?;
-    assert_eq!(rt; least.as_slice(), [1, 3].as_slice());
-    let greatest = plain_top(alloc, &[value], value, 3, 0, rows.as_slice())?;
-    assert_eq!(rt; greatest.as_slice(), [2, 4, 0].as_slice());
-    let later = plain_top(alloc, &[value], value, 2, 1, rows.as_slice())?;
-    assert_eq!(rt; later.as_slice(), [4, 0].as_slice());
-    let place = PlainDimension {
-        column: 1,
-        range: Some(PlainRange { low: 0, high: 4 }),
-    };
-    let early = plain_top(alloc, &[value, place], value, 3, 0, rows.as_slice())?;
-    assert_eq!(rt; early.as_slice(), [2, 0, 3].as_slice());
     Ok(())
 }

@@ -36,42 +36,6 @@ fn rows_of(alloc: Global, records: &[(&str, i64)]) -> Result<RowList, OutOfMemor
     Ok(rows)
 }
 
-fn see<L: Ledger>(
-    rt: &impl Abort,
-    alloc: Global,
-    blank: Blank,
-    names: &[&str],
-    bytes: u64,
-) -> Result<(), Fail>
-    requires name { blank.name ≡ L.name }
-    requires parts { blank.parts ≡ L.parts }
-    requires some { 0 < blank.parts }
-{
-    let mut steps = Steps::<L>::new(blank);
-    let mut table = Table::new(alloc, name_and_number(alloc)?, Limits::standard());
-    assert!(rt; table.is_empty());
-    for name in names {
-        assert_eq!(rt; table.append(rows_of(alloc, &[(name, 0)])?), Ok(()));
-    }
-    assert_eq!(rt; table.len(), names.len());
-    assert_eq!(rt; table.text(), bytes);
-    assert_eq!(rt; table.schema().len(), 2);
-    assert_eq!(rt; table.rows(&mut steps).len(), names.len());
-    for (place, name) in names.iter().enumerate() {
-        assert!(rt; place < table.len());
-        match table.row(place, &mut steps).at(0) {
-            Some(Cell::Text(own)) => assert_eq!(rt; own.as_str(), *name),
-            _ => assert!(rt; false, "no text at {place}"),
-        }
-    }
-    Ok(())
-}
-
-#[test]
-fn rows_in_order(rt: HostRuntime) -> Result<(), Fail> {
-    see::<Brand>(&rt, rt.alloc(), Blank::new(1), &["b", "", "ü", "b"], 4)
-}
-
 /// What a table of at most four records and five bytes of text holds.
 struct Held {
     records: usize,
@@ -182,15 +146,19 @@ fn keep(rt: &impl Abort, alloc: Global, table: &mut Table, marks: &[bool]) -> Re
     Ok(())
 }
 
-/// Says whether these are the names of rows.
-fn has_names(rows: &RowList, names: &[&str]) -> bool {
-    for (row, name) in rows.as_slice().iter().zip(names) {
-        match row.at(0) {
-            Some(Cell::Text(own)) if own.as_str() == *name => {}
-            _ => return false,
-        }
+/// Says whether a row has a name.
+fn has_name(row: &Row, name: &str) -> bool {
+    matches!(row.at(0), Some(Cell::Text(own)) if own.as_str() == name)
+}
+
+/// Sees that a table has rows of these names, all together and each by its place.
+fn see_names<L: Ledger>(rt: &impl Abort, table: &Table, names: &[&str], steps: &mut Steps<L>) {
+    assert!(rt; table.len() == names.len() && table.is_empty() == names.is_empty());
+    assert!(rt; table.rows(steps).len() == names.len());
+    for (place, name) in names.iter().enumerate() {
+        assert!(rt; place < table.len());
+        assert!(rt; has_name(table.row(place, steps), name), "{name}");
     }
-    rows.len() == names.len()
 }
 
 fn see_kept<L: Ledger>(rt: &impl Abort, alloc: Global, blank: Blank) -> Result<(), Fail>
@@ -206,7 +174,8 @@ fn see_kept<L: Ledger>(rt: &impl Abort, alloc: Global, blank: Blank) -> Result<(
             .expect(rt, "three records");
         keep(rt, alloc, &mut table, first)?;
         keep(rt, alloc, &mut table, second)?;
-        assert!(rt; has_names(table.rows(&mut steps), names) && table.text() == *bytes);
+        see_names(rt, &table, names, &mut steps);
+        assert!(rt; table.text() == *bytes && table.schema().len() == 2);
     }
     Ok(())
 }

@@ -1,3 +1,3 @@
 //! The stock on values from outside.
-pub(crate) mod accessors;
+mod accessors;
 mod roundings;

@@ -88,15 +88,6 @@ pub(crate) fn see_entries(
     Ok(())
 }
 
-/// Compares the numbers of entries with those that a table has.
-fn see_numbers(rt: &impl Abort, found: &[KeyNumber], want: &[i128]) -> Result<(), Fail> {
-    assert_eq!(rt; found.len(), want.len());
-    for (entry, number) in found.iter().zip(want) {
-        assert_eq!(rt; entry.number, *number);
-    }
-    Ok(())
-}
-
 /// A record as a table has it: a text, a whole number, cents, a day and tags.
 type ToldRecord = (&'static str, i64, i64, i64, &'static [&'static str]);
 

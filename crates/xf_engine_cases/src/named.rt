@@ -1,8 +1,8 @@
-//! Filters and items by their words, and a schema of each kind of column.
+//! Filters by their words, and a schema of each kind of column.
 use std::alloc::Global;
 use std::test::Fail;
 use xf_base::{Column, ColumnKind, KeyForm, OutOfMemory, Schema, Text};
-use xf_filter::{Filter, Item, StockPredicate, read_filter, read_item, resolve, resolve_item};
+use xf_filter::{Filter, StockPredicate, read_filter, resolve};
 
 /// A text, a whole number, cents, a day and tags.
 pub(crate) fn a_schema(alloc: Global) -> Result<Schema, Fail> {
@@ -41,11 +41,4 @@ pub(crate) fn filter_of(
     let words = words_of(alloc, line)?;
     let raw = read_filter(alloc, words.as_slice(), 1)?;
     Ok(resolve(alloc, form, &raw)?)
-}
-
-/// The item that the words of a line name where keys have a form.
-pub(crate) fn item_of(alloc: Global, form: &KeyForm, line: &str) -> Result<Item, Fail> {
-    let words = words_of(alloc, line)?;
-    let raw = read_item(alloc, words.as_slice(), 1)?;
-    Ok(resolve_item(alloc, form, &raw)?)
 }

@@ -1,4 +1,4 @@
-//! The fields of the stock of reducers.
+//! The fields of the stock of reducers, and of a part alone and two parts.
 ghost use Rattle.std.specs.Prelude.{◌≡◌, ◌<◌};
 
 use crate::folds::{a_schema, see_fields};
@@ -7,7 +7,7 @@ use std::marker::Brand;
 use std::process::Abort;
 use std::sync::ledger::{Blank, Ledger};
 use std::test::Fail;
-use xf_base::Steps;
+use xf_base::{OutOfMemory, Schema, Steps};
 use xf_reduce::{Alone, Both, Reducer, Simple, Spread, StockReducer, SumCount, SumSquares};
 
 /// Whole numbers, and cents beside them.
@@ -17,40 +17,109 @@ const FIRST: &[(i64, i64)] = &[(7, 150)];
 
 const TWO: &[(i64, i64)] = &[(-5, 0), (0, 0)];
 
-/// A reducer, the numbers of rows, and the fields: of the spread, how many numbers differ, the least, the greatest and
-/// the median.
-static FIELDS: [(StockReducer, &[(i64, i64)], &[i128]); 14] = [
-    (StockReducer::One(Simple::Count), ALL, &[4]),
-    (StockReducer::One(Simple::Sum(0)), ALL, &[9]),
-    (StockReducer::One(Simple::Sum(1)), ALL, &[126]),
-    (StockReducer::One(Simple::SumCount(0)), ALL, &[9, 4, 2]),
-    (StockReducer::One(Simple::SumCount(1)), ALL, &[126, 4, 31]),
-    (StockReducer::One(Simple::SumSquares(0)), ALL, &[123, 9, 4]),
-    (StockReducer::One(Simple::Spread(0)), ALL, &[3, -5, 7, 0]),
-    (StockReducer::One(Simple::Spread(1)), ALL, &[4, -25, 150, 0]),
+/// What two parts keep of all of them: of the cents sum, count and mean, and the spread of the whole numbers.
+const BOTH: &[i128] = &[126, 4, 31, 3, -5, 7, 0];
+
+/// A reducer, the numbers of rows, the fields (of the spread, how many numbers differ, the least, the greatest and the
+/// median), and their decimals.
+static FIELDS: [(StockReducer, &[(i64, i64)], &[i128], &[u8]); 16] = [
+    (StockReducer::One(Simple::Count), ALL, &[4], &[0]),
+    (StockReducer::One(Simple::Sum(0)), ALL, &[9], &[0]),
+    (StockReducer::One(Simple::Sum(1)), ALL, &[126], &[2]),
+    (
+        StockReducer::One(Simple::SumCount(0)),
+        ALL,
+        &[9, 4, 2],
+        &[0, 0, 0],
+    ),
+    (
+        StockReducer::One(Simple::SumCount(1)),
+        ALL,
+        &[126, 4, 31],
+        &[2, 0, 2],
+    ),
+    (
+        StockReducer::One(Simple::SumSquares(0)),
+        ALL,
+        &[123, 9, 4],
+        &[0, 0, 0],
+    ),
+    (
+        StockReducer::One(Simple::Spread(0)),
+        ALL,
+        &[3, -5, 7, 0],
+        &[0, 0, 0, 0],
+    ),
+    (
+        StockReducer::One(Simple::Spread(1)),
+        ALL,
+        &[4, -25, 150, 0],
+        &[0, 2, 2, 2],
+    ),
     (
         StockReducer::Two(Simple::SumCount(0), Simple::Spread(0)),
         ALL,
         &[9, 4, 2, 3, -5, 7, 0],
+        &[0, 0, 0, 0, 0, 0, 0],
     ),
     (
         StockReducer::Two(Simple::SumSquares(1), Simple::Count),
         FIRST,
         &[22500, 150, 1, 1],
+        &[4, 2, 0, 0],
     ),
-    (StockReducer::One(Simple::SumCount(0)), TWO, &[-5, 2, -3]),
-    (StockReducer::One(Simple::Spread(0)), TWO, &[2, -5, 0, -5]),
+    (
+        StockReducer::One(Simple::SumCount(0)),
+        TWO,
+        &[-5, 2, -3],
+        &[0, 0, 0],
+    ),
+    (
+        StockReducer::One(Simple::Spread(0)),
+        TWO,
+        &[2, -5, 0, -5],
+        &[0, 0, 0, 0],
+    ),
     (
         StockReducer::Two(Simple::SumCount(0), Simple::Spread(0)),
         &[],
+        &[0, 0, 0, 0, 0, 0, 0],
         &[0, 0, 0, 0, 0, 0, 0],
     ),
     (
         StockReducer::Two(Simple::Count, Simple::SumSquares(0)),
         &[],
         &[0, 0, 0, 0],
+        &[0, 0, 0, 0],
+    ),
+    (
+        StockReducer::Two(Simple::Sum(1), Simple::SumSquares(1)),
+        FIRST,
+        &[150, 22500, 150, 1],
+        &[2, 4, 2, 0],
+    ),
+    (
+        StockReducer::Two(Simple::SumCount(1), Simple::Spread(1)),
+        FIRST,
+        &[150, 1, 150, 1, 150, 150, 150],
+        &[2, 0, 2, 0, 2, 2, 2],
     ),
 ];
+
+/// The decimals of the fields of a reducer.
+fn decimals_of(
+    rt: &impl Abort,
+    alloc: Global,
+    schema: &Schema,
+    reducer: &StockReducer,
+) -> Result<Vec<u8>, OutOfMemory> {
+    assert!(rt; reducer.fits(schema));
+    let mut decimals = Vec::new(alloc);
+    for field in 0..reducer.fields() {
+        decimals.push(reducer.decimals(schema, field))?;
+    }
+    Ok(decimals)
+}
 
 fn see_stock<L: Ledger>(rt: &impl Abort, alloc: Global, blank: Blank) -> Result<(), Fail>
     requires name { blank.name ≡ L.name }
@@ -59,65 +128,20 @@ fn see_stock<L: Ledger>(rt: &impl Abort, alloc: Global, blank: Blank) -> Result<
 {
     let mut steps = Steps::<L>::new(blank);
     let schema = a_schema(alloc)?;
-    for (reducer, numbers, fields) in &FIELDS {
+    for (reducer, numbers, fields, decimals) in &FIELDS {
         let copy = reducer.copy(alloc)?;
         assert!(rt; copy == *reducer);
         see_fields(rt, alloc, &schema, &copy, numbers, fields, &mut steps)?;
+        let found = decimals_of(rt, alloc, &schema, reducer)?;
+        assert_eq!(rt; found.as_slice(), *decimals);
     }
-    Ok(())
+    let alone = Alone(SumSquares(0)).copy(alloc)?;
+    see_fields(rt, alloc, &schema, &alone, ALL, &[123, 9, 4], &mut steps)?;
+    let both = Both(SumCount(1), Spread(0)).copy(alloc)?;
+    see_fields(rt, alloc, &schema, &both, ALL, BOTH, &mut steps)
 }
 
 #[test]
 fn stock(rt: HostRuntime) -> Result<(), Fail> {
     see_stock::<Brand>(&rt, rt.alloc(), Blank::new(1))
-}
-
-/// A part alone, and two parts.
-fn see_parts<L: Ledger>(rt: &impl Abort, alloc: Global, blank: Blank) -> Result<(), Fail>
-    requires name { blank.name ≡ L.name }
-    requires parts { blank.parts ≡ L.parts }
-    requires some { 0 < blank.parts }
-{
-    let mut steps = Steps::<L>::new(blank);
-    let schema = a_schema(alloc)?;
-    let alone = Alone(SumSquares(0)).copy(alloc)?;
-    see_fields(rt, alloc, &schema, &alone, ALL, &[123, 9, 4], &mut steps)?;
-    let both = Both(SumCount(1), Spread(0)).copy(alloc)?;
-    let fields = [126, 4, 31, 3, -5, 7, 0];
-    see_fields(rt, alloc, &schema, &both, ALL, &fields, &mut steps)
-}
-
-#[test]
-fn concrete(rt: HostRuntime) -> Result<(), Fail> {
-    see_parts::<Brand>(&rt, rt.alloc(), Blank::new(1))
-}
-
-/// A reducer, and the decimals of its fields.
-static DECIMALS: [(StockReducer, &[u8]); 3] = [
-    (
-        StockReducer::Two(Simple::Sum(1), Simple::SumSquares(1)),
-        &[2, 4, 2, 0],
-    ),
-    (
-        StockReducer::Two(Simple::SumCount(1), Simple::Spread(1)),
-        &[2, 0, 2, 0, 2, 2, 2],
-    ),
-    (
-        StockReducer::Two(Simple::Count, Simple::SumSquares(0)),
-        &[0, 0, 0, 0],
-    ),
-];
-
-#[test]
-fn decimals(rt: HostRuntime) -> Result<(), Fail> {
-    let schema = a_schema(rt.alloc())?;
-    for (reducer, want) in &DECIMALS {
-        assert!(rt; reducer.fits(&schema));
-        let mut decimals = Vec::new(rt.alloc());
-        for field in 0..reducer.fields() {
-            decimals.push(reducer.decimals(&schema, field))?;
-        }
-        assert_eq!(rt; decimals.as_slice(), *want);
-    }
-    Ok(())
 }

@@ -8,3 +8,5 @@
 mod lines;
 #[cfg(test)]
 mod replies;
+#[cfg(test)]
+mod see;

@@ -1,11 +1,12 @@
 //! Lines that are read, as the one line that is written for each, and lines that are refused.
+use crate::see::see;
 use std::alloc::Global;
 use std::process::Abort;
 use std::test::Fail;
 use xf_script::{Command, LineRefusal, print_command, read_command};
 
 /// A line, and the line that is written for its command, which is read as it again; an empty one where the line is no step.
-static WRITTEN: [(&[u8], &str); 44] = [
+static WRITTEN: [(&[u8], &str); 49] = [
     (b"", ""),
     (b" \t ", ""),
     (b"  # filter a all", ""),
@@ -68,10 +69,6 @@ static WRITTEN: [(&[u8], &str); 44] = [
     (b"value g \"\\\"\\\\\\n\\r\"", "value g \"\\\"\\\\\\n\\r\""),
     (b"records", "records"),
     (b"records a \"b c\"", "records a \"b c\""),
-];
-
-/// Commands of one word or of any words.
-static PLAIN: [(&[u8], &str); 5] = [
     (b"size", "size"),
     (b"\tpassing", "passing"),
     (b"events\t", "events"),
@@ -158,28 +155,15 @@ fn written(alloc: Global, read: &Option<Command>) -> Result<Vec<u8>, Fail> {
     }
 }
 
-fn see_written(
-    rt: &impl Abort,
-    alloc: Global,
-    cases: &'static [(&'static [u8], &'static str)],
-) -> Result<(), Fail> {
-    for (line, want) in cases {
-        let once = rewritten(alloc, line)?;
-        assert_eq!(rt; str::from_utf8(once.as_slice())?, *want);
-        let again = rewritten(alloc, once.as_slice())?;
-        assert_eq!(rt; str::from_utf8(again.as_slice())?, *want);
-    }
-    Ok(())
-}
-
 #[test]
 fn commands_are_written(rt: HostRuntime) -> Result<(), Fail> {
-    see_written(&rt, rt.alloc(), &WRITTEN)
-}
-
-#[test]
-fn plain_commands_are_written(rt: HostRuntime) -> Result<(), Fail> {
-    see_written(&rt, rt.alloc(), &PLAIN)
+    for (line, want) in &WRITTEN {
+        let once = rewritten(rt.alloc(), line)?;
+        let again = rewritten(rt.alloc(), once.as_slice())?;
+        see(&rt, once.as_slice(), want)?;
+        see(&rt, again.as_slice(), want)?;
+    }
+    Ok(())
 }
 
 fn see_refused(rt: &impl Abort, alloc: Global, line: &[u8], want: LineRefusal) -> Result<(), Fail> {
@@ -196,17 +180,4 @@ fn lines_are_refused(rt: HostRuntime) -> Result<(), Fail> {
         see_refused(&rt, rt.alloc(), line, *want)?;
     }
     Ok(())
-}
-
-#[test]
-fn long_lines(rt: HostRuntime) -> Result<(), Fail> {
-    let longest = vec![in rt.alloc(); b'x'; 65_536]?;
-    see_refused(&rt, rt.alloc(), longest.as_slice(), LineRefusal::Verb)?;
-    let longer = vec![in rt.alloc(); b'#'; 65_537]?;
-    see_refused(
-        &rt,
-        rt.alloc(),
-        longer.as_slice(),
-        LineRefusal::TooLong { length: 65_537 },
-    )
 }

@@ -1,185 +1,259 @@
 //! What is written for replies, refusals and the lines of answers.
+use crate::see::see;
 use std::alloc::Global;
-use std::process::Abort;
 use std::test::Fail;
-use xf_base::{Atom, AtomForm, Cell, Column, ColumnKind, Key, KeyForm, Row, Text, TextList};
+use xf_base::{
+    Atom, AtomForm, Cell, Column, ColumnKind, Key, KeyForm, OutOfMemory, Row, Text, TextList,
+};
 use xf_load::CellRefusal;
 use xf_reply::{
     Bytes, Change, Field, Refusal, Reply, put_entry, put_events, put_fields, put_none,
     put_number_line, put_record, put_refusal, put_step,
 };
 
-fn see(rt: &impl Abort, found: &[u8], want: &str) -> Result<(), Fail> {
-    assert_eq!(rt; str::from_utf8(found)?, want);
-    Ok(())
+/// A reply as a table has it.
+enum Said {
+    Skipped,
+    Changed(Change),
+    /// An answer without lines.
+    Empty,
+    /// A line of each kind that is no record and no entry.
+    Lines,
+    BadCell(CellRefusal),
+    NoWhole(&'static str),
+    NoField(u64),
+    TooMuchText(u64, u64, u64),
 }
 
-/// How each cause of a bad cell is told.
-static CELLS: [(CellRefusal, &str); 9] = [
-    (CellRefusal::NotUtf8, "bad cell 7 \"the day\" not utf8"),
-    (CellRefusal::Empty, "bad cell 7 \"the day\" empty"),
+/// A reply, and what is written for it as step 7.
+static REPLIES: [(Said, &str); 19] = [
+    (Said::Skipped, ""),
+    (Said::Changed(Change::Plain), "step 7 ok\n"),
+    (Said::Changed(Change::Added(4)), "step 7 ok added 4\n"),
+    (Said::Changed(Change::Removed(0)), "step 7 ok removed 0\n"),
     (
-        CellRefusal::NotNumber,
-        "bad cell 7 \"the day\" not a number",
+        Said::Changed(Change::Moved(18446744073709551615)),
+        "step 7 ok moved 18446744073709551615\n",
+    ),
+    (Said::Empty, "step 7 ok\n"),
+    (
+        Said::Lines,
+        "step 7 ok\n  12\n  none\n  added 1 removed 2 filtered 3\n",
     ),
     (
-        CellRefusal::TooManyDecimals,
-        "bad cell 7 \"the day\" too many decimals",
+        Said::BadCell(CellRefusal::NotUtf8),
+        "step 7 refused 20 bad cell 5 \"the day\" not utf8\n",
     ),
     (
-        CellRefusal::OutOfRange,
-        "bad cell 7 \"the day\" out of range",
-    ),
-    (CellRefusal::Form, "bad cell 7 \"the day\" not a date"),
-    (CellRefusal::NoSuchDay, "bad cell 7 \"the day\" no such day"),
-    (
-        CellRefusal::TextTooLong,
-        "bad cell 7 \"the day\" text too long",
+        Said::BadCell(CellRefusal::Empty),
+        "step 7 refused 20 bad cell 5 \"the day\" empty\n",
     ),
     (
-        CellRefusal::TooManyTags,
-        "bad cell 7 \"the day\" too many tags",
+        Said::BadCell(CellRefusal::NotNumber),
+        "step 7 refused 20 bad cell 5 \"the day\" not a number\n",
+    ),
+    (
+        Said::BadCell(CellRefusal::TooManyDecimals),
+        "step 7 refused 20 bad cell 5 \"the day\" too many decimals\n",
+    ),
+    (
+        Said::BadCell(CellRefusal::OutOfRange),
+        "step 7 refused 20 bad cell 5 \"the day\" out of range\n",
+    ),
+    (
+        Said::BadCell(CellRefusal::Form),
+        "step 7 refused 20 bad cell 5 \"the day\" not a date\n",
+    ),
+    (
+        Said::BadCell(CellRefusal::NoSuchDay),
+        "step 7 refused 20 bad cell 5 \"the day\" no such day\n",
+    ),
+    (
+        Said::BadCell(CellRefusal::TextTooLong),
+        "step 7 refused 20 bad cell 5 \"the day\" text too long\n",
+    ),
+    (
+        Said::BadCell(CellRefusal::TooManyTags),
+        "step 7 refused 20 bad cell 5 \"the day\" too many tags\n",
+    ),
+    (Said::NoWhole("w w"), "step 7 refused 8 no whole \"w w\"\n"),
+    (Said::NoField(9), "step 7 refused 14 no field 9\n"),
+    (
+        Said::TooMuchText(1, 2, 3),
+        "step 7 refused 23 too much text 1 2 3\n",
     ),
 ];
 
-#[test]
-fn bad_cells(rt: HostRuntime) -> Result<(), Fail> {
-    for (why, want) in &CELLS {
-        let refusal = Refusal::BadCell {
-            number: 7,
-            column: Text::of(rt.alloc(), "the day")?,
-            why: *why,
-        };
-        let mut out = Vec::new(rt.alloc());
-        put_refusal(&mut out, &refusal)?;
-        see(&rt, out.as_slice(), want)?;
-    }
-    Ok(())
-}
-
-/// The text of a step whose line was refused.
-fn refused_step(alloc: Global, refusal: Refusal) -> Result<Vec<u8>, Fail> {
-    let mut out = Vec::new(alloc);
-    put_step(&mut out, 2, &Reply::Refused(refusal))?;
-    Ok(out)
-}
-
-#[test]
-fn refused_steps(rt: HostRuntime) -> Result<(), Fail> {
-    let name = Text::of(rt.alloc(), "w w")?;
-    let found = refused_step(rt.alloc(), Refusal::NoWhole { name })?;
-    see(&rt, found.as_slice(), "step 2 refused 8 no whole \"w w\"\n")?;
-    let found = refused_step(rt.alloc(), Refusal::NoField { number: 9 })?;
-    see(&rt, found.as_slice(), "step 2 refused 14 no field 9\n")?;
-    let much = Refusal::TooMuchText {
-        have: 1,
-        more: 2,
-        limit: 3,
-    };
-    let found = refused_step(rt.alloc(), much)?;
-    see(
-        &rt,
-        found.as_slice(),
-        "step 2 refused 23 too much text 1 2 3\n",
-    )
-}
-
-/// The text of a step that changed something.
-static CHANGES: [(Change, &str); 4] = [
-    (Change::Plain, "step 3 ok\n"),
-    (Change::Added(4), "step 3 ok added 4\n"),
-    (Change::Removed(0), "step 3 ok removed 0\n"),
-    (
-        Change::Moved(18446744073709551615),
-        "step 3 ok moved 18446744073709551615\n",
-    ),
-];
-
-#[test]
-fn accepted_steps(rt: HostRuntime) -> Result<(), Fail> {
-    for (change, want) in &CHANGES {
-        let mut out = Vec::new(rt.alloc());
-        put_step(&mut out, 3, &Reply::Changed(*change))?;
-        see(&rt, out.as_slice(), want)?;
-    }
-    let mut out = Vec::new(rt.alloc());
-    put_step(&mut out, 3, &Reply::Skipped)?;
-    put_step(&mut out, 4, &Reply::Answer(Bytes::new(rt.alloc())))?;
-    let mut lines = Vec::new(rt.alloc());
+fn lines(alloc: Global) -> Result<Bytes, OutOfMemory> {
+    let mut lines = Vec::new(alloc);
     put_number_line(&mut lines, 12)?;
     put_none(&mut lines)?;
     put_events(&mut lines, 1, 2, 3)?;
-    put_step(&mut out, 5, &Reply::Answer(Bytes::from_vec(lines)))?;
-    see(
-        &rt,
-        out.as_slice(),
-        "step 4 ok\nstep 5 ok\n  12\n  none\n  added 1 removed 2 filtered 3\n",
-    )
+    Ok(Bytes::from_vec(lines))
 }
 
-fn field(number: i128, decimals: u8) -> Field {
-    Field { number, decimals }
-}
-
-#[test]
-fn fields(rt: HostRuntime) -> Result<(), Fail> {
-    let mut out = Vec::new(rt.alloc());
-    put_fields(&mut out, &[])?;
-    put_fields(&mut out, &[field(-5, 2), field(0, 1), field(7, 0)])?;
-    put_fields(&mut out, &[field(i128::MAX, 2), field(i128::MIN, 0)])?;
-    see(
-        &rt,
-        out.as_slice(),
-        " -0.05 0.0 7 1701411834604692317316873037158841057.27 -170141183460469231731687303715884105728",
-    )
-}
-
-#[test]
-fn entries(rt: HostRuntime) -> Result<(), Fail> {
-    let mut out = Vec::new(rt.alloc());
-    let mut scratch = Vec::new(rt.alloc());
-    let fixed = KeyForm::One(AtomForm::Fixed(2));
-    let one = [field(3, 0)];
-    put_entry(&mut out, &mut scratch, &fixed, &Key::Num(-5), &one)?;
-    let date = KeyForm::One(AtomForm::Date);
-    let two = [field(-1205, 2), field(4, 0)];
-    put_entry(&mut out, &mut scratch, &date, &Key::Num(1), &two)?;
-    let text = Text::of(rt.alloc(), "a b")?;
-    let both = KeyForm::Pair(AtomForm::Text, AtomForm::Fixed(0));
-    let pair = Key::Pair(Atom::Text(text), Atom::Num(7));
-    put_entry(&mut out, &mut scratch, &both, &pair, &[field(0, 0)])?;
-    see(
-        &rt,
-        out.as_slice(),
-        "  -0.05 3\n  1970-01-02 -12.05 4\n  \"a b|7\" 0\n",
-    )
-}
-
-fn column(alloc: Global, kind: ColumnKind) -> Result<Column, Fail> {
-    Ok(Column {
-        name: Text::of(alloc, "x")?,
-        kind,
-        blank: None,
+fn reply_of(alloc: Global, said: &Said) -> Result<Reply, OutOfMemory> {
+    Ok(match said {
+        Said::Skipped => Reply::Skipped,
+        Said::Changed(change) => Reply::Changed(*change),
+        Said::Empty => Reply::Answer(Bytes::new(alloc)),
+        Said::Lines => Reply::Answer(lines(alloc)?),
+        Said::BadCell(why) => Reply::Refused(Refusal::BadCell {
+            number: 5,
+            column: Text::of(alloc, "the day")?,
+            why: *why,
+        }),
+        Said::NoWhole(name) => Reply::Refused(Refusal::NoWhole {
+            name: Text::of(alloc, name)?,
+        }),
+        Said::NoField(number) => Reply::Refused(Refusal::NoField { number: *number }),
+        Said::TooMuchText(have, more, limit) => Reply::Refused(Refusal::TooMuchText {
+            have: *have,
+            more: *more,
+            limit: *limit,
+        }),
     })
 }
 
 #[test]
-fn records(rt: HostRuntime) -> Result<(), Fail> {
-    let mut columns = Vec::new(rt.alloc());
-    columns.push(column(rt.alloc(), ColumnKind::Int)?)?;
-    columns.push(column(rt.alloc(), ColumnKind::Fixed(1))?)?;
-    columns.push(column(rt.alloc(), ColumnKind::Date)?)?;
-    columns.push(column(rt.alloc(), ColumnKind::Text)?)?;
-    columns.push(column(rt.alloc(), ColumnKind::Tags(b'+'))?)?;
-    let mut tags = TextList::new(rt.alloc());
-    tags.push(Text::of(rt.alloc(), "a")?)?;
-    tags.push(Text::of(rt.alloc(), "b")?)?;
-    let mut row = Row::new(rt.alloc());
-    row.push(Cell::Num(-7))?;
-    row.push(Cell::Num(25))?;
-    row.push(Cell::Num(11336))?;
-    row.push(Cell::Text(Text::of(rt.alloc(), "")?))?;
+fn steps(rt: HostRuntime) -> Result<(), Fail> {
+    for (said, want) in &REPLIES {
+        let mut out = Vec::new(rt.alloc());
+        put_step(&mut out, 7, &reply_of(rt.alloc(), said)?)?;
+        see(&rt, out.as_slice(), want)?;
+    }
+    let mut out = Vec::new(rt.alloc());
+    put_refusal(&mut out, &Refusal::NoHeader)?;
+    see(&rt, out.as_slice(), "no header")
+}
+
+/// A number of a key, alone or as the second of a pair behind the text `a b`.
+enum Told {
+    Num(i64),
+    Pair(i64),
+}
+
+fn key_of(alloc: Global, told: &Told) -> Result<Key, OutOfMemory> {
+    Ok(match told {
+        Told::Num(number) => Key::Num(*number),
+        Told::Pair(number) => Key::Pair(Atom::Text(Text::of(alloc, "a b")?), Atom::Num(*number)),
+    })
+}
+
+/// A form, a key, the fields of an entry, how these are written, and how the entry is.
+static ENTRIES: [(KeyForm, Told, &[Field], &str, &str); 4] = [
+    (
+        KeyForm::One(AtomForm::Fixed(2)),
+        Told::Num(-5),
+        &[],
+        "",
+        "  -0.05\n",
+    ),
+    (
+        KeyForm::One(AtomForm::Date),
+        Told::Num(1),
+        &[
+            Field {
+                number: -1205,
+                decimals: 2,
+            },
+            Field {
+                number: 4,
+                decimals: 0,
+            },
+        ],
+        " -12.05 4",
+        "  1970-01-02 -12.05 4\n",
+    ),
+    (
+        KeyForm::Pair(AtomForm::Text, AtomForm::Fixed(0)),
+        Told::Pair(7),
+        &[
+            Field {
+                number: -5,
+                decimals: 2,
+            },
+            Field {
+                number: 0,
+                decimals: 1,
+            },
+            Field {
+                number: 7,
+                decimals: 0,
+            },
+        ],
+        " -0.05 0.0 7",
+        "  \"a b|7\" -0.05 0.0 7\n",
+    ),
+    (
+        KeyForm::One(AtomForm::Fixed(0)),
+        Told::Num(0),
+        &[
+            Field {
+                number: i128::MAX,
+                decimals: 2,
+            },
+            Field {
+                number: i128::MIN,
+                decimals: 0,
+            },
+        ],
+        " 1701411834604692317316873037158841057.27 -170141183460469231731687303715884105728",
+        "  0 1701411834604692317316873037158841057.27 -170141183460469231731687303715884105728\n",
+    ),
+];
+
+#[test]
+fn entries(rt: HostRuntime) -> Result<(), Fail> {
+    for (form, told, fields, words, line) in &ENTRIES {
+        let key = key_of(rt.alloc(), told)?;
+        let mut out = Vec::new(rt.alloc());
+        put_fields(&mut out, fields)?;
+        see(&rt, out.as_slice(), words)?;
+        let mut scratch = Vec::new(rt.alloc());
+        out.clear();
+        put_entry(&mut out, &mut scratch, form, &key, fields)?;
+        see(&rt, out.as_slice(), line)?;
+    }
+    Ok(())
+}
+
+/// A column of each kind.
+fn columns(alloc: Global) -> Result<Vec<Column>, OutOfMemory> {
+    let mut columns = Vec::new(alloc);
+    for kind in [
+        ColumnKind::Int,
+        ColumnKind::Fixed(1),
+        ColumnKind::Date,
+        ColumnKind::Text,
+        ColumnKind::Tags(b'+'),
+    ] {
+        columns.push(Column {
+            name: Text::of(alloc, "x")?,
+            kind,
+            blank: None,
+        })?;
+    }
+    Ok(columns)
+}
+
+fn a_row(alloc: Global) -> Result<Row, OutOfMemory> {
+    let mut tags = TextList::new(alloc);
+    tags.push(Text::of(alloc, "a")?)?;
+    tags.push(Text::of(alloc, "b")?)?;
+    let mut row = Row::new(alloc);
+    for number in [-7, 25, 11336] {
+        row.push(Cell::Num(number))?;
+    }
+    row.push(Cell::Text(Text::of(alloc, "")?))?;
     row.push(Cell::Tags(tags))?;
+    Ok(row)
+}
+
+#[test]
+fn records(rt: HostRuntime) -> Result<(), Fail> {
+    let columns = columns(rt.alloc())?;
+    let row = a_row(rt.alloc())?;
     let mut out = Vec::new(rt.alloc());
     let mut scratch = Vec::new(rt.alloc());
     put_record(&mut out, &mut scratch, columns.as_slice(), 4, &row)?;

@@ -1,4 +1,4 @@
-//! What no clause of the session says: lines in turn and what is written for each, by hand from the rules.
+//! What no clause of the session says: lines in turn within low limits and what is written for each, by hand from the rules.
 //!
 //! It stands on the session, replies and the outside, and has nothing but tests, which cost a crate that it is proved once
 //! more. Its one promise: each session of the tables gives exactly the text beside it.
@@ -7,6 +7,4 @@
 #[cfg(test)]
 mod case;
 #[cfg(test)]
-mod refusals;
-#[cfg(test)]
-mod steps;
+mod limits;

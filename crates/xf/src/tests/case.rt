@@ -104,27 +104,6 @@ pub(super) fn see(rt: &impl Abort, alloc: Global, case: &Case<'_>) -> Result<(),
     Ok(())
 }
 
-/// Runs each session on its board, and compares what is written and the status. A case is a name, a board, a session on
-/// it, and what is written.
-pub(super) fn see_sessions(
-    rt: &impl Abort,
-    alloc: Global,
-    status: u8,
-    cases: &'static [(&'static str, &'static [u8], &'static [u8], &'static str)],
-) -> Result<(), Fail> {
-    for (name, board, session, text) in cases {
-        let case = Case {
-            name,
-            files: &[("b.csv", board), ("s.txt", session)],
-            status,
-            text,
-            ..PLAIN
-        };
-        see(rt, alloc, &case)?;
-    }
-    Ok(())
-}
-
 /// Runs with the words of each case, and compares what is written and the status. A case is a name, the words with a bar
 /// between them, the status, and what is written.
 pub(super) fn see_words(

@@ -1,6 +1,6 @@
-//! Files that are absent, too long or cannot be read, an output that fails, and memory that is refused.
+//! Files that are too long or cannot be read, an output that fails, and memory that is refused.
 use super::case::{
-    ALL_STEPS, BOARD, Case, FIRST_STEP, PLAIN, SESSION, USAGE, see, see_words, words_between_bars,
+    ALL_STEPS, BOARD, Case, FIRST_STEP, PLAIN, SESSION, USAGE, see, words_between_bars,
 };
 use crate::{code_of, run};
 use std::alloc::Global;
@@ -58,27 +58,6 @@ group b 4
   30 1
   40 1
 ";
-
-/// A name, the words with a bar between them, the status, and what is written.
-static ABSENT: [(&str, &str, u8, &str); 7] = [
-    ("an absent board", "c.csv|s.txt", 7, "absent c.csv\n"),
-    ("both files absent", "c.csv|t.txt", 7, "absent c.csv\n"),
-    ("an absent session", "b.csv|t.txt", 7, "absent t.txt\n"),
-    ("an empty name", "b.csv|", 7, "absent \"\"\n"),
-    (
-        "a blank in a name",
-        "b.csv|my s.txt",
-        7,
-        "absent \"my s.txt\"\n",
-    ),
-    ("a tab in a name", "b.csv|a\tb", 7, "absent \"a\\tb\"\n"),
-    (
-        "a quote, a backslash and bytes above 127 in a name",
-        "ü\"\\.csv|",
-        7,
-        "absent \"ü\\\"\\\\.csv\"\n",
-    ),
-];
 
 /// The number of the fetch that fails, and that of the put that fails with how many bytes it keeps; 0 for none.
 type Failing = (u64, (u64, u64));
@@ -206,11 +185,6 @@ static FAULTS: [(&str, &str, Failing, u8, &str); 18] = [
         ALL_STEPS,
     ),
 ];
-
-#[test]
-fn tells_absent_files(rt: HostRuntime) -> Result<(), Fail> {
-    see_words(&rt, rt.alloc(), &ABSENT)
-}
 
 #[test]
 fn ends_where_calls_fail(rt: HostRuntime) -> Result<(), Fail> {

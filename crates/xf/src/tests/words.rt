@@ -1,9 +1,9 @@
-//! Which words are accepted.
+//! Which words are accepted, and which of the files that they name are absent.
 use super::case::{ALL_STEPS, USAGE, see_words};
 use std::test::Fail;
 
 /// A name, the words with a bar between them, the status, and what is written.
-static CASES: [(&str, &str, u8, &str); 14] = [
+static CASES: [(&str, &str, u8, &str); 21] = [
     ("a board and a session", "b.csv|s.txt", 1, ALL_STEPS),
     (
         "a board's name that is its ending alone",
@@ -33,6 +33,23 @@ static CASES: [(&str, &str, u8, &str); 14] = [
     ("an ending in capitals", "b.CSV|s.txt", 2, USAGE),
     ("a blank after the ending", "b.csv |s.txt", 2, USAGE),
     ("an ending without its point", "csv|s.txt", 2, USAGE),
+    ("an absent board", "c.csv|s.txt", 7, "absent c.csv\n"),
+    ("both files absent", "c.csv|t.txt", 7, "absent c.csv\n"),
+    ("an absent session", "b.csv|t.txt", 7, "absent t.txt\n"),
+    ("an empty name", "b.csv|", 7, "absent \"\"\n"),
+    (
+        "a blank in a name",
+        "b.csv|my s.txt",
+        7,
+        "absent \"my s.txt\"\n",
+    ),
+    ("a tab in a name", "b.csv|a\tb", 7, "absent \"a\\tb\"\n"),
+    (
+        "a quote, a backslash and bytes above 127 in a name",
+        "ü\"\\.csv|",
+        7,
+        "absent \"ü\\\"\\\\.csv\"\n",
+    ),
 ];
 
 #[test]

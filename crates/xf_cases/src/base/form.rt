@@ -1,23 +1,22 @@
-//! Keys as texts, and back.
-use crate::see::see_text;
+//! Words that are read as keys.
 use std::alloc::Global;
 use std::test::Fail;
-use xf_base::{Atom, AtomForm, Key, KeyForm, OutOfMemory, Text, key_of_word, put_key};
+use xf_base::{Atom, AtomForm, Key, KeyForm, OutOfMemory, Text, key_of_word};
 
-const NUMBER: KeyForm = KeyForm::One(AtomForm::Fixed(1));
+pub(super) const NUMBER: KeyForm = KeyForm::One(AtomForm::Fixed(1));
 
-const DATE: KeyForm = KeyForm::One(AtomForm::Date);
+pub(super) const DATE: KeyForm = KeyForm::One(AtomForm::Date);
 
-const TEXT: KeyForm = KeyForm::One(AtomForm::Text);
+pub(super) const TEXT: KeyForm = KeyForm::One(AtomForm::Text);
 
-const DATE_AND_NUMBER: KeyForm = KeyForm::Pair(AtomForm::Date, AtomForm::Fixed(2));
+pub(super) const DATE_AND_NUMBER: KeyForm = KeyForm::Pair(AtomForm::Date, AtomForm::Fixed(2));
 
 const NUMBER_AND_TEXT: KeyForm = KeyForm::Pair(AtomForm::Fixed(0), AtomForm::Text);
 
-const TEXT_AND_DATE: KeyForm = KeyForm::Pair(AtomForm::Text, AtomForm::Date);
+pub(super) const TEXT_AND_DATE: KeyForm = KeyForm::Pair(AtomForm::Text, AtomForm::Date);
 
-/// The key of a place in the tables below.
-fn key_at(alloc: Global, place: usize) -> Result<Key, OutOfMemory> {
+/// The key of a place in the tables.
+pub(super) fn key_at(alloc: Global, place: usize) -> Result<Key, OutOfMemory> {
     let atom = |text| Ok::<Atom, OutOfMemory>(Atom::Text(Text::of(alloc, text)?));
     Ok(match place {
         0 => Key::Num(-5),
@@ -33,33 +32,6 @@ fn key_at(alloc: Global, place: usize) -> Result<Key, OutOfMemory> {
         10 => Key::Text(Text::of(alloc, "1.25")?),
         _ => Key::Pair(atom("a")?, atom("\u{e9}|c")?),
     })
-}
-
-/// A form, the place of a key, and its text.
-static WRITTEN: [(KeyForm, usize, &str); 13] = [
-    (NUMBER, 0, "-0.5"),
-    (DATE, 1, "2001-01-14"),
-    (DATE, 2, "2932897"),
-    (TEXT, 0, "-5"),
-    (DATE_AND_NUMBER, 1, "11336"),
-    (TEXT, 3, "a|b"),
-    (DATE, 4, ""),
-    (TEXT_AND_DATE, 3, "a|b"),
-    (TEXT_AND_DATE, 5, "a|b|1970-01-02"),
-    (DATE_AND_NUMBER, 5, "a|b|0.01"),
-    (DATE_AND_NUMBER, 6, "1970-01-01|-1.50"),
-    (NUMBER, 6, "0|-150"),
-    (TEXT_AND_DATE, 7, "1|b"),
-];
-
-#[test]
-fn writes_keys(rt: HostRuntime) -> Result<(), Fail> {
-    for (form, place, want) in &WRITTEN {
-        let mut out = Vec::new(rt.alloc());
-        put_key(&mut out, form, &key_at(rt.alloc(), *place)?)?;
-        see_text(&rt, want, out.as_slice(), want)?;
-    }
-    Ok(())
 }
 
 /// A form, a word, and the place of the key that it is.

@@ -10,14 +10,27 @@ pub(crate) fn gone_of(alloc: Global, marks: &[bool]) -> Result<Gone, OutOfMemory
     Gone::of(alloc, copy)
 }
 
-/// The marks of places, and where each comes to stand.
-static PLACES: [(&[bool], &[Option<usize>]); 6] = [
-    (&[], &[]),
-    (&[false, false, false], &[Some(0), Some(1), Some(2)]),
-    (&[true, true], &[None, None]),
-    (&[true, false, false], &[None, Some(0), Some(1)]),
-    (&[false, false, true], &[Some(0), Some(1), None]),
-    (&[false, true, true, false], &[Some(0), None, None, Some(1)]),
+/// The marks of places, where each comes to stand, and which of the numbers of these places, from 0 on, are left.
+static PLACES: [(&[bool], &[Option<usize>], &[usize]); 7] = [
+    (&[], &[], &[]),
+    (
+        &[false, false, false],
+        &[Some(0), Some(1), Some(2)],
+        &[0, 1, 2],
+    ),
+    (&[true, true], &[None, None], &[]),
+    (&[true, false, false], &[None, Some(0), Some(1)], &[1, 2]),
+    (&[false, false, true], &[Some(0), Some(1), None], &[0, 1]),
+    (
+        &[false, true, true, false],
+        &[Some(0), None, None, Some(1)],
+        &[0, 3],
+    ),
+    (
+        &[true, false, true, false],
+        &[None, Some(0), None, Some(1)],
+        &[1, 3],
+    ),
 ];
 
 fn see_places(rt: &impl Abort, gone: &Gone, places: &[Option<usize>]) {
@@ -29,40 +42,28 @@ fn see_places(rt: &impl Abort, gone: &Gone, places: &[Option<usize>]) {
     }
 }
 
-#[test]
-fn gives_new_places(rt: HostRuntime) -> Result<(), Fail> {
-    kept_items::<u32>();
-    for (marks, places) in &PLACES {
-        see_places(&rt, &gone_of(rt.alloc(), marks)?, places);
+/// The numbers from 0 on, as many as there are.
+fn numbers_to(alloc: Global, count: usize) -> Result<ListOf<usize>, OutOfMemory> {
+    let mut numbers = Vec::new(alloc);
+    for number in 0..count {
+        numbers.push(number)?;
     }
-    Ok(())
+    Ok(ListOf::from_vec(numbers))
 }
 
-/// Which of the numbers from 1 to 4 are removed, then which of those that stay, and which are left.
-static RETAINED: [(&[bool], &[bool], &[u32]); 6] = [
-    (
-        &[false, false, false, false],
-        &[false, false, false, false],
-        &[1, 2, 3, 4],
-    ),
-    (&[true, true, true, true], &[], &[]),
-    (&[true, false, false, false], &[true, false, false], &[3, 4]),
-    (&[false, false, false, true], &[false, false, true], &[1, 2]),
-    (&[false, true, true, false], &[false, true], &[1]),
-    (&[true, false, true, false], &[true, true], &[]),
-];
-
-fn retain(rt: &impl Abort, numbers: &mut ListOf<u32>, gone: &Gone) {
+fn retain(rt: &impl Abort, numbers: &mut ListOf<usize>, gone: &Gone) {
     assert!(rt; gone.len() == numbers.len());
     numbers.retain(gone);
 }
 
 #[test]
-fn retains_in_order(rt: HostRuntime) -> Result<(), Fail> {
-    for (first, second, left) in &RETAINED {
-        let mut numbers = ListOf::from_vec(vec![in rt.alloc(); 1_u32, 2, 3, 4]?);
-        retain(&rt, &mut numbers, &gone_of(rt.alloc(), first)?);
-        retain(&rt, &mut numbers, &gone_of(rt.alloc(), second)?);
+fn places_close_up(rt: HostRuntime) -> Result<(), Fail> {
+    kept_items::<u32>();
+    for (marks, places, left) in &PLACES {
+        let gone = gone_of(rt.alloc(), marks)?;
+        see_places(&rt, &gone, places);
+        let mut numbers = numbers_to(rt.alloc(), marks.len())?;
+        retain(&rt, &mut numbers, &gone);
         assert_eq!(rt; numbers.as_slice(), *left);
     }
     Ok(())

@@ -2,9 +2,7 @@
 use std::alloc::Global;
 use std::cmp::Ordering;
 use std::test::Fail;
-use xf_base::{
-    Atom, AtomForm, AtomKind, Key, KeyForm, KeyKind, KeyList, ListOf, OutOfMemory, Text,
-};
+use xf_base::{Atom, AtomForm, AtomKind, Key, KeyForm, KeyKind, OutOfMemory, Text};
 
 /// The key whose order stands at this place of the table below.
 fn key_at(alloc: Global, place: usize) -> Result<Key, OutOfMemory> {
@@ -24,11 +22,39 @@ fn key_at(alloc: Global, place: usize) -> Result<Key, OutOfMemory> {
     })
 }
 
+/// For each place a form of keys of that key's kind, and the kind.
+static KINDS: [(KeyForm, KeyKind); 11] = [
+    (KeyForm::One(AtomForm::Fixed(2)), KeyKind::Num),
+    (KeyForm::One(AtomForm::Date), KeyKind::Num),
+    (KeyForm::One(AtomForm::Fixed(0)), KeyKind::Num),
+    (KeyForm::One(AtomForm::Text), KeyKind::Text),
+    (KeyForm::One(AtomForm::Text), KeyKind::Text),
+    (KeyForm::One(AtomForm::Text), KeyKind::Text),
+    (KeyForm::One(AtomForm::Text), KeyKind::Text),
+    (
+        KeyForm::Pair(AtomForm::Date, AtomForm::Text),
+        KeyKind::Pair(AtomKind::Num, AtomKind::Text),
+    ),
+    (
+        KeyForm::Pair(AtomForm::Text, AtomForm::Fixed(0)),
+        KeyKind::Pair(AtomKind::Text, AtomKind::Num),
+    ),
+    (
+        KeyForm::Pair(AtomForm::Text, AtomForm::Date),
+        KeyKind::Pair(AtomKind::Text, AtomKind::Num),
+    ),
+    (
+        KeyForm::Pair(AtomForm::Text, AtomForm::Text),
+        KeyKind::Pair(AtomKind::Text, AtomKind::Text),
+    ),
+];
+
 #[test]
-fn orders_keys(rt: HostRuntime) -> Result<(), Fail> {
-    for i in 0..11_usize {
+fn keys_have_kinds_and_an_order(rt: HostRuntime) -> Result<(), Fail> {
+    for (i, (form, kind)) in KINDS.iter().enumerate() {
         let key = key_at(rt.alloc(), i)?;
         assert!(rt; key.is_plain());
+        assert!(rt; key.kind() == *kind && form.kind() == *kind, "at {i}");
         for j in 0..11_usize {
             let other = key_at(rt.alloc(), j)?.copy(rt.alloc())?;
             let is_ordered = key.cmp(&other) == i.cmp(&j);
@@ -39,41 +65,6 @@ fn orders_keys(rt: HostRuntime) -> Result<(), Fail> {
     let text = Text::of(rt.alloc(), "a")?;
     assert!(rt; text == text.copy(rt.alloc())?);
     assert_eq!(rt; Atom::Num(7).cmp(&Atom::Text(text)), Ordering::Less);
-    Ok(())
-}
-
-/// The place of a key, a form of keys of its kind, and that kind.
-static KINDS: [(usize, KeyForm, KeyKind); 5] = [
-    (0, KeyForm::One(AtomForm::Fixed(2)), KeyKind::Num),
-    (1, KeyForm::One(AtomForm::Date), KeyKind::Num),
-    (3, KeyForm::One(AtomForm::Text), KeyKind::Text),
-    (
-        7,
-        KeyForm::Pair(AtomForm::Date, AtomForm::Text),
-        KeyKind::Pair(AtomKind::Num, AtomKind::Text),
-    ),
-    (
-        8,
-        KeyForm::Pair(AtomForm::Text, AtomForm::Fixed(0)),
-        KeyKind::Pair(AtomKind::Text, AtomKind::Num),
-    ),
-];
-
-#[test]
-fn keys_and_forms_have_kinds(rt: HostRuntime) -> Result<(), Fail> {
-    for (place, form, want) in &KINDS {
-        let kind = key_at(rt.alloc(), *place)?.kind();
-        assert!(rt; kind == *want && form.kind() == *want, "at {form:?}");
-    }
     assert!(rt; AtomForm::Date.kind() == AtomKind::Num);
-    Ok(())
-}
-
-#[test]
-fn makes_lists(rt: HostRuntime) -> Result<(), Fail> {
-    let mut keys = KeyList::new(rt.alloc());
-    keys.push(Key::Num(5))?;
-    assert!(rt; matches!(keys.at(0), Some(Key::Num(5))) && keys.at(1).is_none());
-    assert!(rt; ListOf::from_vec(vec![in rt.alloc(); 1, 2]?).len() == 2);
     Ok(())
 }

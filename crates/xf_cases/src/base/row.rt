@@ -1,70 +1,11 @@
 //! Rows, schemas and limits.
 use std::alloc::Global;
+use std::process::Abort;
 use std::test::Fail;
 use xf_base::{
     Cell, Column, ColumnKind, FIRST_DAY, LAST_DAY, Limits, OutOfMemory, Row, RowList, Schema, Text,
     TextList,
 };
-
-/// A row of a number, a text and two tags.
-fn a_row(alloc: Global) -> Result<Row, OutOfMemory> {
-    let mut tags = TextList::new(alloc);
-    tags.push(Text::of(alloc, "new")?)?;
-    tags.push(Text::of(alloc, "small")?)?;
-    let mut row = Row::new(alloc);
-    row.push(Cell::Num(-5))?;
-    row.push(Cell::Text(Text::of(alloc, "ab")?))?;
-    row.push(Cell::Tags(tags))?;
-    Ok(row)
-}
-
-/// Says whether this is what stands at a place of `a_row`.
-fn is_right(place: usize, cell: Option<&Cell>) -> bool {
-    match (place, cell) {
-        (0, Some(Cell::Num(number))) => *number == -5,
-        (1, Some(Cell::Text(text))) => text.as_str() == "ab",
-        (2, Some(Cell::Tags(tags))) => tags.len() == 2,
-        (_, cell) => place == 3 && cell.is_none(),
-    }
-}
-
-#[test]
-fn copies_rows(rt: HostRuntime) -> Result<(), Fail> {
-    let row = a_row(rt.alloc())?.copy(rt.alloc())?;
-    for place in 0..4_usize {
-        assert!(rt; is_right(place, row.at(place)), "cell {place}");
-    }
-    assert!(rt; row.len() == 3 && !row.is_empty() && row.text_bytes() == 10);
-    Ok(())
-}
-
-#[test]
-fn joins_rows(rt: HostRuntime) -> Result<(), Fail> {
-    let mut row = a_row(rt.alloc())?;
-    row.append(a_row(rt.alloc())?)?;
-    assert!(rt; row.as_slice().len() == 6);
-    let mut rows = RowList::new(rt.alloc());
-    rows.push(row)?;
-    rows.push(a_row(rt.alloc())?)?;
-    assert!(rt; rows.text_bytes() == 30);
-    Ok(())
-}
-
-#[test]
-fn holds_schemas_and_limits(rt: HostRuntime) -> Result<(), Fail> {
-    let mut schema = Schema::new(rt.alloc());
-    schema.push(Column {
-        name: Text::of(rt.alloc(), "price")?,
-        kind: ColumnKind::Fixed(2),
-        blank: None,
-    })?;
-    assert_eq!(rt; schema.len(), 1);
-    assert!(rt; schema.as_slice()[0].kind == ColumnKind::Fixed(2));
-    assert_eq!(rt; schema.place_of(b"price"), Some(0));
-    assert_eq!(rt; schema.place_of(b"Price"), None);
-    assert_eq!(rt; Limits::standard().rows, 1_000_000);
-    Ok(())
-}
 
 /// A schema with a column of each kind.
 fn a_schema(alloc: Global) -> Result<Schema, OutOfMemory> {
@@ -114,39 +55,67 @@ fn row_of(alloc: Global, letters: &str) -> Result<Row, OutOfMemory> {
     Ok(row)
 }
 
-/// The letters of a row, and the first column that is missing or differs.
-static MISFITS: [(&str, Option<usize>); 15] = [
-    ("nmdxt", None),
-    ("Nmdxt", Some(0)),
-    ("xmdxt", Some(0)),
-    ("nNdxt", Some(1)),
-    ("nmDxt", Some(2)),
-    ("nmnxt", Some(2)),
-    ("nmdnt", Some(3)),
-    ("nmdxx", Some(4)),
-    ("nmdxT", Some(4)),
-    ("nmdx2", Some(4)),
-    ("Nmdx", Some(0)),
-    ("nmdx", Some(4)),
-    ("nmdxtn", Some(5)),
-    ("nmDxtn", Some(2)),
-    ("", Some(0)),
+/// The letters of a row, how many bytes its texts have, and the first column that is missing or differs.
+static ROWS: [(&str, u64, Option<usize>); 15] = [
+    ("nmdxt", 3, None),
+    ("Nmdxt", 3, Some(0)),
+    ("xmdxt", 4, Some(0)),
+    ("nNdxt", 3, Some(1)),
+    ("nmDxt", 3, Some(2)),
+    ("nmnxt", 3, Some(2)),
+    ("nmdnt", 2, Some(3)),
+    ("nmdxx", 2, Some(4)),
+    ("nmdxT", 3, Some(4)),
+    ("nmdx2", 3, Some(4)),
+    ("Nmdx", 1, Some(0)),
+    ("nmdx", 1, Some(4)),
+    ("nmdxtn", 3, Some(5)),
+    ("nmDxtn", 3, Some(2)),
+    ("", 0, Some(0)),
 ];
 
-#[test]
-fn tells_misfits(rt: HostRuntime) -> Result<(), Fail> {
-    let schema = a_schema(rt.alloc())?;
-    for (letters, want) in &MISFITS {
-        let found = schema.misfit(&row_of(rt.alloc(), letters)?);
-        assert_eq!(rt; found, *want, "at {letters}");
+/// Says whether this is the cell of a letter of few.
+fn is_of(letter: u8, cell: &Cell) -> bool {
+    match (letter, cell) {
+        (b'n', Cell::Num(number)) => *number == 1_000_000_000_000_000,
+        (b'x', Cell::Text(text)) => text.as_str() == "x",
+        (b't', Cell::Tags(tags)) => tags.len() == 2,
+        _ => !matches!(letter, b'n' | b'x' | b't'),
     }
-    Ok(())
+}
+
+/// Sees that a row has the cells of letters.
+fn see_cells(rt: &impl Abort, letters: &str, row: &Row) {
+    assert!(rt; row.len() == letters.len() && row.is_empty() == letters.is_empty());
+    for (place, letter) in letters.bytes().enumerate() {
+        let is_right = row.at(place).is_some_and(|cell| is_of(letter, cell));
+        assert!(rt; is_right, "{letters} at {place}");
+    }
+}
+
+/// A list of a row, and of a row with the same cells twice.
+fn once_and_twice(alloc: Global, row: &Row) -> Result<RowList, OutOfMemory> {
+    let mut twice = row.copy(alloc)?;
+    twice.append(row.copy(alloc)?)?;
+    let mut rows = RowList::new(alloc);
+    rows.push(row.copy(alloc)?)?;
+    rows.push(twice)?;
+    Ok(rows)
 }
 
 #[test]
-fn gives_its_items(rt: HostRuntime) -> Result<(), Fail> {
-    let items = row_of(rt.alloc(), "nm")?.into_vec();
-    assert_eq!(rt; items.len(), 2);
-    assert!(rt; Limits::standard().is_sound());
+fn rows_of_a_schema(rt: HostRuntime) -> Result<(), Fail> {
+    let schema = a_schema(rt.alloc())?;
+    for (letters, bytes, misfit) in &ROWS {
+        let row = row_of(rt.alloc(), letters)?;
+        assert_eq!(rt; schema.misfit(&row), *misfit, "at {letters}");
+        see_cells(&rt, letters, &row.copy(rt.alloc())?);
+        let rows = once_and_twice(rt.alloc(), &row)?;
+        let is_right = row.text_bytes() == *bytes && rows.text_bytes() == bytes.saturating_mul(3);
+        assert!(rt; is_right && rows.into_vec().len() == 2, "{letters}");
+    }
+    assert!(rt; schema.len() == 5 && schema.as_slice()[1].kind == ColumnKind::Fixed(2));
+    assert!(rt; schema.place_of(b"c") == Some(0) && schema.place_of(b"C").is_none());
+    assert!(rt; Limits::standard().rows == 1_000_000 && Limits::standard().is_sound());
     Ok(())
 }

@@ -1,10 +1,9 @@
-//! Counted steps, and want of memory.
+//! Counted steps.
 ghost use Rattle.std.specs.Prelude.{◌≡◌, ◌<◌};
 
 use std::marker::Brand;
 use std::sync::ledger::{Blank, Ledger};
-use std::test::Fail;
-use xf_base::{OutOfMemory, Steps};
+use xf_base::Steps;
 
 fn count_three<L: Ledger>(blank: Blank)
     requires name { blank.name ≡ L.name }
@@ -19,11 +18,4 @@ fn count_three<L: Ledger>(blank: Blank)
 #[test]
 fn counts_steps() {
     count_three::<Brand>(Blank::new(1));
-}
-
-#[test]
-fn want_of_memory_has_a_text(rt: HostRuntime) -> Result<(), Fail> {
-    let text = format!(in rt.alloc(); "{}", OutOfMemory)?;
-    assert_eq!(rt; text.as_str(), "out of memory");
-    Ok(())
 }

@@ -2,6 +2,7 @@
 use super::{one_tag, shown};
 use crate::see::see_text;
 use std::alloc::Global;
+use std::process::Abort;
 use std::test::Fail;
 use xf_base::{Cell, Column, ColumnKind, Text};
 use xf_load::{CellRefusal, ReadCellFault, read_cell};
@@ -141,16 +142,6 @@ static FIELDS: [(&str, ColumnKind, &[u8], &str); 44] = [
     ("NUL separates", ColumnKind::Tags(0), b"b\0a", "tags|a||b|"),
 ];
 
-#[test]
-fn reads_fields(rt: HostRuntime) -> Result<(), Fail> {
-    for (name, kind, field, want) in &FIELDS {
-        let column = column(rt.alloc(), *kind, None)?;
-        let text = answer(rt.alloc(), &column, field)?;
-        see_text(&rt, name, text.as_bytes(), want)?;
-    }
-    Ok(())
-}
-
 /// The blank cell of a column of a kind.
 fn blank(alloc: Global, kind: ColumnKind) -> Result<Cell, Fail> {
     match kind {
@@ -177,15 +168,29 @@ static BLANKS: [(&str, ColumnKind, &[u8], &str); 12] = [
     ("empty pieces alone", TAGS, b";", "tags"),
 ];
 
-#[test]
-fn blank_fields_give_the_blank(rt: HostRuntime) -> Result<(), Fail> {
-    for (name, kind, field, want) in &BLANKS {
-        let blank = blank(rt.alloc(), *kind)?;
-        let column = column(rt.alloc(), *kind, Some(blank))?;
-        let text = answer(rt.alloc(), &column, field)?;
-        see_text(&rt, name, text.as_bytes(), want)?;
+/// Reads each field into a column of its kind, with a blank cell or without one.
+fn see_fields(
+    rt: &impl Abort,
+    alloc: Global,
+    has_blank: bool,
+    cases: &'static [(&'static str, ColumnKind, &'static [u8], &'static str)],
+) -> Result<(), Fail> {
+    for (name, kind, field, want) in cases {
+        let column = if has_blank {
+            column(alloc, *kind, Some(blank(alloc, *kind)?))?
+        } else {
+            column(alloc, *kind, None)?
+        };
+        let text = answer(alloc, &column, field)?;
+        see_text(rt, name, text.as_bytes(), want)?;
     }
     Ok(())
+}
+
+#[test]
+fn reads_fields(rt: HostRuntime) -> Result<(), Fail> {
+    see_fields(&rt, rt.alloc(), false, &FIELDS)?;
+    see_fields(&rt, rt.alloc(), true, &BLANKS)
 }
 
 /// Tags `0` to `count - 1`, each with a separator after it, so many times, and then so many blanks.

@@ -2,9 +2,10 @@
 use super::shown;
 use crate::see::see_text;
 use std::alloc::Global;
+use std::process::Abort;
 use std::test::Fail;
 use xf_base::{Column, ColumnKind, RowList, Schema, Text};
-use xf_load::{CellRefusal, LoadRefusal, Loaded, records_of, records_within};
+use xf_load::{Loaded, records_of, records_within};
 
 /// The columns `delay` of whole numbers and `carrier` of texts.
 fn flights(alloc: Global) -> Result<Schema, Fail> {
@@ -177,60 +178,67 @@ static FILES: [(&str, &[u8], &str); 36] = [
     ),
 ];
 
-#[test]
-fn reads_files(rt: HostRuntime) -> Result<(), Fail> {
-    let schema = flights(rt.alloc())?;
-    for (name, bytes, want) in &FILES {
-        let text = match records_of(rt.alloc(), &schema, bytes) {
-            Ok(rows) => rows_shown(rt.alloc(), &rows)?,
-            Err(refusal) => format!(in rt.alloc(); "{refusal}")?,
+/// The same of a schema without columns.
+static NO_COLUMNS: [(&str, &[u8], &str); 2] = [
+    ("records", b"a,b\n1,2\n3,4\n", ";;"),
+    ("a short record", b"a,b\n1\n", "uneven record 1"),
+];
+
+fn see_files(
+    rt: &impl Abort,
+    alloc: Global,
+    schema: &Schema,
+    cases: &'static [(&'static str, &'static [u8], &'static str)],
+) -> Result<(), Fail> {
+    for (name, bytes, want) in cases {
+        let text = match records_of(alloc, schema, bytes) {
+            Ok(rows) => rows_shown(alloc, &rows)?,
+            Err(refusal) => format!(in alloc; "{refusal}")?,
         };
-        see_text(&rt, name, text.as_bytes(), want)?;
+        see_text(rt, name, text.as_bytes(), want)?;
     }
     Ok(())
 }
 
 #[test]
-fn a_schema_without_columns_takes_records(rt: HostRuntime) -> Result<(), Fail> {
-    let schema = Schema::new(rt.alloc());
-    let rows = records_of(rt.alloc(), &schema, b"a,b\n1,2\n3,4\n")?;
-    assert_eq!(rt; rows.len(), 2);
-    let uneven = records_of(rt.alloc(), &schema, b"a,b\n1\n");
-    assert_eq!(rt; uneven.err(), Some(LoadRefusal::UnevenRecord { number: 1 }));
-    Ok(())
+fn reads_files(rt: HostRuntime) -> Result<(), Fail> {
+    see_files(&rt, rt.alloc(), &flights(rt.alloc())?, &FILES)?;
+    see_files(&rt, rt.alloc(), &Schema::new(rt.alloc()), &NO_COLUMNS)
 }
 
-/// A name, a limit, and the rows of a file of three that are kept.
-static LIMITS: [(&str, u64, &str); 5] = [
-    ("no row kept", 0, ""),
-    ("one kept", 1, "1 |a|;"),
-    ("all but one kept", 2, "1 |a|;2 |b|;"),
-    ("as many as there are", 3, "1 |a|;2 |b|;3 |c|;"),
-    ("more than there are", 4, "1 |a|;2 |b|;3 |c|;"),
+/// A name, a limit, a file, how many records it has, and the rows that are kept.
+static LIMITS: [(&str, u64, &[u8], u64, &str); 6] = [
+    ("no row kept", 0, THREE, 3, ""),
+    ("one kept", 1, THREE, 3, "1 |a|;"),
+    ("all but one kept", 2, THREE, 3, "1 |a|;2 |b|;"),
+    ("as many as there are", 3, THREE, 3, "1 |a|;2 |b|;3 |c|;"),
+    ("more than there are", 4, THREE, 3, "1 |a|;2 |b|;3 |c|;"),
+    (
+        "a bad cell past the limit",
+        1,
+        b"delay,carrier\n1,a\n2,b\nx,c\n",
+        0,
+        "bad cell 3 0 not a number",
+    ),
 ];
+
+const THREE: &[u8] = b"delay,carrier\n1,a\n2,b\n3,c\n";
+
+/// How many records a file has, and its rows within a limit; 0 and the cause where it is refused.
+fn within(alloc: Global, schema: &Schema, bytes: &[u8], limit: u64) -> Result<(u64, String), Fail> {
+    match records_within(alloc, schema, bytes, limit) {
+        Ok(Loaded { rows, count }) => Ok((count, rows_shown(alloc, &rows)?)),
+        Err(refusal) => Ok((0, format!(in alloc; "{refusal}")?)),
+    }
+}
 
 #[test]
 fn keeps_rows_within_a_limit(rt: HostRuntime) -> Result<(), Fail> {
     let schema = flights(rt.alloc())?;
-    let bytes = b"delay,carrier\n1,a\n2,b\n3,c\n";
-    for (name, limit, want) in &LIMITS {
-        let Loaded { rows, count } = records_within(rt.alloc(), &schema, bytes, *limit)?;
-        let text = rows_shown(rt.alloc(), &rows)?;
+    for (name, limit, bytes, count, want) in &LIMITS {
+        let (found, text) = within(rt.alloc(), &schema, bytes, *limit)?;
         see_text(&rt, name, text.as_bytes(), want)?;
-        assert!(rt; count == 3, "{name}");
+        assert!(rt; found == *count, "{name}");
     }
-    Ok(())
-}
-
-#[test]
-fn reads_past_a_limit(rt: HostRuntime) -> Result<(), Fail> {
-    let schema = flights(rt.alloc())?;
-    let bad = records_within(rt.alloc(), &schema, b"delay,carrier\n1,a\n2,b\nx,c\n", 1);
-    let want = LoadRefusal::BadCell {
-        number: 3,
-        column: 0,
-        why: CellRefusal::NotNumber,
-    };
-    assert_eq!(rt; bad.err(), Some(want));
     Ok(())
 }

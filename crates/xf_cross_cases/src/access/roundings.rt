@@ -1,75 +1,98 @@
 //! The stock of roundings on numbers, texts and a pair.
+use crate::told::{Told, key_of};
 use std::test::Fail;
 use xf_access::{Rounding, StockRounding};
-use xf_base::{Atom, Key, Text};
 
-/// A rounding, a number, and the rounded number. Day 19,782 is 2024-02-29, and day -1 is 1969-12-31.
-static NUMBERS: [(StockRounding, i64, i64); 16] = [
-    (StockRounding::Same, -7, -7),
-    (StockRounding::Floor(5), -7, -10),
-    (StockRounding::Floor(5), -5, -5),
-    (StockRounding::Floor(5), 9, 5),
-    (StockRounding::Floor(5), i64::MIN, i64::MIN),
+/// A rounding, a key, and the rounded key. Day 19,782 is 2024-02-29, and day -1 is 1969-12-31.
+static KEYS: [(StockRounding, Told, Told); 25] = [
+    (StockRounding::Same, Told::Num(-7), Told::Num(-7)),
+    (StockRounding::Floor(5), Told::Num(-7), Told::Num(-10)),
+    (StockRounding::Floor(5), Told::Num(-5), Told::Num(-5)),
+    (StockRounding::Floor(5), Told::Num(9), Told::Num(5)),
+    (
+        StockRounding::Floor(5),
+        Told::Num(i64::MIN),
+        Told::Num(i64::MIN),
+    ),
     (
         StockRounding::Floor(1_000_000_000_000_000),
-        -1,
-        -1_000_000_000_000_000,
+        Told::Num(-1),
+        Told::Num(-1_000_000_000_000_000),
     ),
-    (StockRounding::Floor(1_000_000_000_000_001), 7, 7),
-    (StockRounding::Floor(0), 7, 7),
-    (StockRounding::MonthOf, 19_782, 19_754),
-    (StockRounding::MonthOf, -1, -31),
-    (StockRounding::YearOf, 19_782, 19_723),
-    (StockRounding::YearOf, -1, -365),
-    (StockRounding::YearOf, -719_529, -719_529),
-    (StockRounding::YearOf, 2_932_897, 2_932_897),
-    (StockRounding::MonthOf, 2_932_896, 2_932_866),
-    (StockRounding::FirstLetters(1), 77, 77),
-];
-
-#[test]
-fn rounds_numbers(rt: HostRuntime) -> Result<(), Fail> {
-    for (rounding, number, want) in &NUMBERS {
-        let rounded = rounding.round(rt.alloc(), &Key::Num(*number))?;
-        assert!(rt;
-            matches!(rounded, Key::Num(rounded) if rounded == *want),
-            "at {number}"
-        );
-    }
-    Ok(())
-}
-
-/// A rounding, a text, and the rounded text.
-static TEXTS: [(StockRounding, &str, &str); 8] = [
-    (StockRounding::FirstLetters(1), "\u{e9}\u{2026}x", "\u{e9}"),
+    (
+        StockRounding::Floor(1_000_000_000_000_001),
+        Told::Num(7),
+        Told::Num(7),
+    ),
+    (StockRounding::Floor(0), Told::Num(7), Told::Num(7)),
+    (StockRounding::MonthOf, Told::Num(19_782), Told::Num(19_754)),
+    (StockRounding::MonthOf, Told::Num(-1), Told::Num(-31)),
+    (StockRounding::YearOf, Told::Num(19_782), Told::Num(19_723)),
+    (StockRounding::YearOf, Told::Num(-1), Told::Num(-365)),
+    (
+        StockRounding::YearOf,
+        Told::Num(-719_529),
+        Told::Num(-719_529),
+    ),
+    (
+        StockRounding::YearOf,
+        Told::Num(2_932_897),
+        Told::Num(2_932_897),
+    ),
+    (
+        StockRounding::MonthOf,
+        Told::Num(2_932_896),
+        Told::Num(2_932_866),
+    ),
+    (StockRounding::FirstLetters(1), Told::Num(77), Told::Num(77)),
+    (
+        StockRounding::FirstLetters(1),
+        Told::Text("\u{e9}\u{2026}x"),
+        Told::Text("\u{e9}"),
+    ),
     (
         StockRounding::FirstLetters(2),
-        "\u{e9}\u{2026}x",
-        "\u{e9}\u{2026}",
+        Told::Text("\u{e9}\u{2026}x"),
+        Told::Text("\u{e9}\u{2026}"),
     ),
     (
         StockRounding::FirstLetters(3),
-        "e\u{301}\u{1f600}b",
-        "e\u{301}\u{1f600}",
+        Told::Text("e\u{301}\u{1f600}b"),
+        Told::Text("e\u{301}\u{1f600}"),
     ),
-    (StockRounding::FirstLetters(64), "ab", "ab"),
-    (StockRounding::FirstLetters(1), "", ""),
-    (StockRounding::FirstLetters(0), "ab", "ab"),
-    (StockRounding::FirstLetters(65), "ab", "ab"),
-    (StockRounding::Floor(5), "ab", "ab"),
+    (
+        StockRounding::FirstLetters(64),
+        Told::Text("ab"),
+        Told::Text("ab"),
+    ),
+    (
+        StockRounding::FirstLetters(1),
+        Told::Text(""),
+        Told::Text(""),
+    ),
+    (
+        StockRounding::FirstLetters(0),
+        Told::Text("ab"),
+        Told::Text("ab"),
+    ),
+    (
+        StockRounding::FirstLetters(65),
+        Told::Text("ab"),
+        Told::Text("ab"),
+    ),
+    (StockRounding::Floor(5), Told::Text("ab"), Told::Text("ab")),
+    (
+        StockRounding::Floor(5),
+        Told::Pair("a", -7),
+        Told::Pair("a", -7),
+    ),
 ];
 
 #[test]
-fn rounds_texts(rt: HostRuntime) -> Result<(), Fail> {
-    for (rounding, text, want) in &TEXTS {
-        let key = Key::Text(Text::of(rt.alloc(), text)?);
-        let rounded = rounding.round(rt.alloc(), &key)?;
-        assert!(rt;
-            matches!(&rounded, Key::Text(text) if text.as_str() == *want),
-            "at {want}"
-        );
+fn rounds_keys(rt: HostRuntime) -> Result<(), Fail> {
+    for (place, (rounding, told, want)) in KEYS.iter().enumerate() {
+        let rounded = rounding.round(rt.alloc(), &key_of(rt.alloc(), told)?)?;
+        assert!(rt; rounded == key_of(rt.alloc(), want)?, "at {place}");
     }
-    let pair = Key::Pair(Atom::Num(7), Atom::Num(-7));
-    assert!(rt; StockRounding::Floor(5).round(rt.alloc(), &pair)? == pair);
     Ok(())
 }

@@ -1,9 +1,8 @@
-//! Filters of any predicate: one of a test's own, items that are toggled, dimensions that are ignored, and all filters
-//! cleared.
+//! Filters of any predicate: one of a test's own, dimensions that are ignored, and all filters cleared.
 ghost use Rattle.std.specs.Prelude.{◌≡◌, ◌<◌};
 
-use crate::engine::{COUNT, FLIGHTS, add_group, flights, numbers_of, rows_of, see_numbers};
-use crate::named::{a_schema, filter_of, item_of};
+use crate::engine::{COUNT, FLIGHTS, add_group, flights, rows_of};
+use crate::named::{a_schema, filter_of};
 use crate::told::{TEXT, WHOLE};
 use std::alloc::Global;
 use std::marker::Brand;
@@ -12,8 +11,8 @@ use std::sync::ledger::{Blank, Ledger};
 use std::test::Fail;
 use xf_access::{Accessor, StockAccessor, StockRounding};
 use xf_base::{Key, KeyKind, Limits, OutOfMemory, Steps};
-use xf_engine::{Cross, DimensionId, GroupId, ListRefusal, NoDimension};
-use xf_filter::{Filter, Predicate, StockPredicate, toggled};
+use xf_engine::{Cross, DimensionId, ListRefusal, NoDimension};
+use xf_filter::{Filter, Predicate};
 
 const DELAY: DimensionId = DimensionId(0);
 
@@ -86,45 +85,6 @@ fn see_predicate<P: Predicate, L: Ledger>(
 #[test]
 fn own_predicate(rt: HostRuntime) -> Result<(), Fail> {
     see_predicate::<Even, Brand>(&rt, rt.alloc(), Even, 3, 1, Blank::new(1))
-}
-
-/// A carrier that is toggled, how much moves, how many flights pass then, and how many of them have each delay.
-static TOGGLES: [(&str, u64, u64, [i128; 3]); 3] = [
-    ("exact AA", 2, 2, [1, 0, 1]),
-    ("exact UA", 1, 3, [1, 1, 1]),
-    ("exact AA", 2, 1, [0, 1, 0]),
-];
-
-/// Whether a filter is that of one carrier.
-fn is_carrier(filter: &Filter<StockPredicate>, carrier: &str) -> bool {
-    match filter {
-        Filter::Exact(Key::Text(own)) => own.as_str() == carrier,
-        _ => false,
-    }
-}
-
-fn see_toggles<L: Ledger>(rt: &impl Abort, alloc: Global, blank: Blank) -> Result<(), Fail>
-    requires name { blank.name ≡ L.name }
-    requires parts { blank.parts ≡ L.parts }
-    requires some { 0 < blank.parts }
-{
-    let mut steps = Steps::<L>::new(blank);
-    let mut cross = flights(rt, alloc, &mut steps)?;
-    for (item, count, passing, delays) in &TOGGLES {
-        let item = item_of(alloc, &TEXT, item)?;
-        let filter = toggled(alloc, cross.filter(CARRIER)?, item)?;
-        let moved = cross.set_filter(CARRIER, filter, &mut steps)?;
-        assert!(rt; moved == *count && cross.passing_count(&mut steps) == *passing);
-        let found = numbers_of(rt, &cross, GroupId(0), 0, &mut steps)?;
-        see_numbers(rt, found.as_slice(), delays)?;
-    }
-    assert!(rt; is_carrier(cross.filter(CARRIER)?, "UA"));
-    Ok(())
-}
-
-#[test]
-fn each_toggle(rt: HostRuntime) -> Result<(), Fail> {
-    see_toggles::<Brand>(&rt, rt.alloc(), Blank::new(1))
 }
 
 /// Dimensions that are ignored, and the flights that pass the others.

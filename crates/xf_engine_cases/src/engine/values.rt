@@ -1,21 +1,16 @@
-//! What groups and wholes keep of flights: under which filters, and how groups are ranked.
+//! What groups and wholes keep of flights, and what is told of them by their ids.
 ghost use Rattle.std.specs.Prelude.{◌≡◌, ◌<◌};
 
-use crate::engine::{
-    COUNT, FLIGHTS, StockCross, add_group, flights, numbers_of, order_by, rows_of, see_entries,
-    see_numbers, tops_of,
-};
+use crate::engine::{COUNT, FLIGHTS, StockCross, flights, rows_of};
 use crate::named::filter_of;
-use crate::told::{TEXT, Told, WHOLE, key_of};
+use crate::told::{Told, WHOLE, key_of};
 use std::alloc::Global;
 use std::marker::Brand;
 use std::process::Abort;
 use std::sync::ledger::{Blank, Ledger};
 use std::test::Fail;
-use xf_access::StockRounding;
-use xf_base::{KeyForm, Limits, Steps};
+use xf_base::{Limits, Steps};
 use xf_engine::{DimensionId, DisposeRefusal, GroupId, NoGroup, NoWhole, WholeId};
-use xf_group::GroupOrder;
 use xf_reduce::{Reducer, Simple, StockReducer};
 
 const DELAY: DimensionId = DimensionId(0);
@@ -48,187 +43,6 @@ fn see_whole(
     Ok(())
 }
 
-/// A filter that is set on a dimension beside those that stand; the count and the cents of the whole; and the cents of each
-/// delay, ascending, and of each carrier.
-struct Filtered {
-    dimension: DimensionId,
-    form: KeyForm,
-    filter: &'static str,
-    whole: (i128, i128),
-    delays: [i128; 3],
-    carriers: [i128; 3],
-}
-
-static FILTERED: [Filtered; 4] = [
-    Filtered {
-        dimension: DELAY,
-        form: WHOLE,
-        filter: "range 0 8",
-        whole: (3, 600),
-        delays: [100, 200, 400],
-        carriers: [300, 100, 200],
-    },
-    Filtered {
-        dimension: CARRIER,
-        form: TEXT,
-        filter: "exact AA",
-        whole: (1, 300),
-        delays: [100, 0, 300],
-        carriers: [300, 100, 200],
-    },
-    Filtered {
-        dimension: DELAY,
-        form: WHOLE,
-        filter: "all",
-        whole: (2, 400),
-        delays: [100, 0, 300],
-        carriers: [400, 100, 200],
-    },
-    Filtered {
-        dimension: CARRIER,
-        form: TEXT,
-        filter: "exact DL",
-        whole: (1, 100),
-        delays: [0, 0, 100],
-        carriers: [400, 100, 200],
-    },
-];
-
-fn see_filtered<L: Ledger>(rt: &impl Abort, alloc: Global, blank: Blank) -> Result<(), Fail>
-    requires name { blank.name ≡ L.name }
-    requires parts { blank.parts ≡ L.parts }
-    requires some { 0 < blank.parts }
-{
-    let mut steps = Steps::<L>::new(blank);
-    let mut cross = flights(rt, alloc, &mut steps)?;
-    let same = StockRounding::Same;
-    let delays = add_group(rt, &mut cross, DELAY, same, COUNT_AND_CENTS, &mut steps)?;
-    let carriers = add_group(rt, &mut cross, CARRIER, same, COUNT_AND_CENTS, &mut steps)?;
-    let whole = add_whole(rt, &mut cross, &mut steps)?;
-    for seen in &FILTERED {
-        let filter = filter_of(alloc, &seen.form, seen.filter)?;
-        cross.set_filter(seen.dimension, filter, &mut steps)?;
-        see_whole(rt, &cross, whole, seen.whole)?;
-        let later = add_whole(rt, &mut cross, &mut steps)?;
-        see_whole(rt, &cross, later, seen.whole)?;
-        let found = numbers_of(rt, &cross, delays, 1, &mut steps)?;
-        see_numbers(rt, found.as_slice(), &seen.delays)?;
-        let found = numbers_of(rt, &cross, carriers, 1, &mut steps)?;
-        see_numbers(rt, found.as_slice(), &seen.carriers)?;
-    }
-    Ok(())
-}
-
-/// A whole sees every filter, and a group those of the other dimensions.
-#[test]
-fn each_filter(rt: HostRuntime) -> Result<(), Fail> {
-    see_filtered::<Brand>(&rt, rt.alloc(), Blank::new(1))
-}
-
-/// The filter of the delays, the order of the carriers, how many are asked for, with which field, and those that are told.
-static TOPS: [(&str, GroupOrder, usize, u8, &[(Told, i128)]); 6] = [
-    (
-        "all",
-        GroupOrder::Natural,
-        9,
-        0,
-        &[
-            (Told::Text("AA"), 2),
-            (Told::Text("DL"), 1),
-            (Told::Text("UA"), 1),
-        ],
-    ),
-    (
-        "all",
-        GroupOrder::By(1),
-        9,
-        1,
-        &[
-            (Told::Text("AA"), 400),
-            (Told::Text("UA"), 200),
-            (Told::Text("DL"), 100),
-        ],
-    ),
-    (
-        "all",
-        GroupOrder::By(1),
-        2,
-        0,
-        &[(Told::Text("AA"), 2), (Told::Text("UA"), 1)],
-    ),
-    (
-        "range 0 8",
-        GroupOrder::By(0),
-        2,
-        1,
-        &[(Told::Text("AA"), 300), (Told::Text("DL"), 100)],
-    ),
-    (
-        "exact 9",
-        GroupOrder::By(1),
-        3,
-        1,
-        &[
-            (Told::Text("AA"), 0),
-            (Told::Text("DL"), 0),
-            (Told::Text("UA"), 0),
-        ],
-    ),
-    ("all", GroupOrder::Natural, 0, 1, &[]),
-];
-
-fn see_tops<L: Ledger>(rt: &impl Abort, alloc: Global, blank: Blank) -> Result<(), Fail>
-    requires name { blank.name ≡ L.name }
-    requires parts { blank.parts ≡ L.parts }
-    requires some { 0 < blank.parts }
-{
-    let mut steps = Steps::<L>::new(blank);
-    let mut cross = flights(rt, alloc, &mut steps)?;
-    let same = StockRounding::Same;
-    let carriers = add_group(rt, &mut cross, CARRIER, same, COUNT_AND_CENTS, &mut steps)?;
-    for (filter, order, count, field, told) in &TOPS {
-        cross.set_filter(DELAY, filter_of(alloc, &WHOLE, filter)?, &mut steps)?;
-        order_by(rt, &mut cross, carriers, *order)?;
-        let found = tops_of(rt, &cross, carriers, *count, *field, &mut steps)?;
-        see_entries(rt, alloc, found.as_slice(), told)?;
-    }
-    Ok(())
-}
-
-/// Where ranks are equal the lesser key comes first.
-#[test]
-fn each_order(rt: HostRuntime) -> Result<(), Fail> {
-    see_tops::<Brand>(&rt, rt.alloc(), Blank::new(1))
-}
-
-/// A key, and the count of its flights where the carriers have it.
-static VALUES: [(Told, Option<i128>); 4] = [
-    (Told::Text("AA"), Some(2)),
-    (Told::Text("UA"), Some(1)),
-    (Told::Text("BA"), None),
-    (Told::Num(7), None),
-];
-
-fn see_values<L: Ledger>(rt: &impl Abort, alloc: Global, blank: Blank) -> Result<(), Fail>
-    requires name { blank.name ≡ L.name }
-    requires parts { blank.parts ≡ L.parts }
-    requires some { 0 < blank.parts }
-{
-    let mut steps = Steps::<L>::new(blank);
-    let cross = flights(rt, alloc, &mut steps)?;
-    for (key, want) in &VALUES {
-        let key = key_of(alloc, key)?;
-        let found = cross.group_value(GroupId(1), &key, &mut steps)?;
-        assert_eq!(rt; found.map(|value| COUNT.rank(value, 0)), *want);
-    }
-    Ok(())
-}
-
-#[test]
-fn each_value(rt: HostRuntime) -> Result<(), Fail> {
-    see_values::<Brand>(&rt, rt.alloc(), Blank::new(1))
-}
-
 /// What is told of a group and of a whole by their ids.
 fn see_things<L: Ledger>(
     rt: &impl Abort,
@@ -244,8 +58,10 @@ fn see_things<L: Ledger>(
     assert!(rt; cross.limits().rows == Limits::standard().rows);
     assert!(rt; cross.group_size(carriers) == Ok(3) && 2 < cross.group_size(carriers)?);
     let entry = cross.group_at(carriers, 2, steps)?;
-    assert!(rt; *entry.key == key_of(alloc, &Told::Text("UA"))?);
-    assert_eq!(rt; COUNT.rank(entry.value, 0), 1);
+    let key = key_of(alloc, &Told::Text("UA"))?;
+    assert!(rt; *entry.key == key && COUNT.rank(entry.value, 0) == 1);
+    let value = cross.group_value(carriers, &key, steps)?;
+    assert_eq!(rt; value.map(|value| COUNT.rank(value, 0)), Some(1));
     Ok(())
 }
 
