@@ -1,0 +1,4 @@
+pub mod After
+pub mod Each
+pub mod Lists
+pub mod Texts

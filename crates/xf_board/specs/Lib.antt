@@ -1,0 +1,8 @@
+pub mod Board
+pub mod Count
+pub mod Members
+pub mod Printed
+pub mod Reading
+pub mod Values
+pub mod Walk
+pub mod Words
