@@ -1,4 +1,11 @@
-pub mod After
-pub mod Each
-pub mod Lists
+pub mod FewValues
+pub mod Kept
+pub mod ReadBackBoard
+pub mod ReadBackCharts
+pub mod ReadBackColumns
+pub mod ReadBackLists
+pub mod ReadBackNames
+pub mod ReadBackParts
+pub mod ReadBackWords
+pub mod Shallow
 pub mod Texts

@@ -1,14 +1,12 @@
 -- What a board is: its parts, and what they keep.
-use Rattle.std.specs.Prelude.{◌≡◌, ℕ, ◌+◌, ◌<◌, ◌≤◌, nat_le, Bool, true, false, ◌&&◌, ⊤, List, [], ◌∷◌, ◌++◌, length, find, Option, Some, None, is_some, option_map, option_and_then, IfSome, IsNone}
+use Rattle.std.specs.Prelude.{◌≡◌, ℕ, ◌+◌, ◌<◌, ◌≤◌, nat_le, Bool, true, false, ◌&&◌, ⊤, List, [], length, find, Option, Some, None, is_some, option_map, option_and_then, IfSome, IsNone}
 use Rattle.std.specs.List.{AllByRecursion}
 use Rattle.std.specs.Option.{option_map_or}
 use Rattle.std.specs.Str.{bytes_eq}
-use Rattle.xf_access.specs.Round.{is_letter_count, is_width}
 use Rattle.xf_access.specs.Stock.{fits_columns, form_of}
 use Rattle.xf_access.specs.declared.stock_rounding.StockRounding.{StockRounding}
-use Rattle.xf_access.specs.declared.stock_rounding.StockRounding.TheVariants as rounding
 use Rattle.xf_base.specs.Bounds.{Bounds}
-use Rattle.xf_base.specs.Schema.{place_of}
+use Rattle.xf_base.specs.Schema.{IsColumn, place_of}
 use Rattle.xf_base.specs.declared.column.Column.{Column}
 use Rattle.xf_base.specs.declared.column.ColumnKind.{ColumnKind}
 use Rattle.xf_base.specs.declared.column.ColumnKind.TheVariants as kind
@@ -19,14 +17,16 @@ use Rattle.xf_base.specs.declared.cell.Cell.{Cell}
 use Rattle.xf_base.specs.declared.limits.TheConstants.Limits.{CHARTS, COLUMNS, DIMENSIONS, GROUPS}
 use Rattle.xf_columns.specs.Columns.{applies}
 use Rattle.xf_reduce.specs.StockReducer.{stock_field_count, stock_fits}
-use Rattle.xf_board.specs.Reading.{is_colour}
+use Rattle.xf_members.specs.Reading.{is_colour}
+pub use Rattle.xf_members.specs.Reading.{AllAfter}
+pub use Rattle.xf_members.specs.Words.{is_sound_rounding}
 use Rattle.xf_board.specs.declared.parts.ChartBody.{ChartBody}
 use Rattle.xf_board.specs.declared.parts.ChartBody.TheVariants as body
 use Rattle.xf_board.specs.declared.parts.ChartSpec.{ChartSpec}
 use Rattle.xf_board.specs.declared.parts.DimensionSpec.{DimensionSpec}
 use Rattle.xf_board.specs.declared.parts.GroupSpec.{GroupSpec}
 use Rattle.xf_board.specs.declared.parts.WholeSpec.{WholeSpec}
-use Rattle.xf_board.specs.declared.parts.TheConstants.{COLOURS, GREATEST_CAP, GREATEST_SIDE, GREATEST_TABLE, LEAST_HEIGHT, LEAST_WIDTH, TABLE_COLUMNS}
+use Rattle.xf_board.specs.Ranges.{greatest_cap, greatest_side, greatest_table, least_height, least_width, most_colours, most_table_columns}
 
 -- a board's title, its columns, its dimensions, groups and wholes in order, its charts and its colours
 pub record BoardParts : Type 0 where
@@ -87,11 +87,6 @@ rounds rounding None = false
 
 -- ---- what each part keeps, beside those before it
 
--- each item keeps a fact beside those before it
-abbrev pub AllAfter : {A : Type 0} → (List A → A → Type 0) → List A → List A → Type 0
-AllAfter Keeps before [] = ⊤
-AllAfter Keeps before (x ∷ xs) = Keeps before x × AllAfter Keeps (before ++ x ∷ []) xs
-
 -- tags are cut at a printable character and have no blank
 abbrev pub IsPlainTags : ColumnKind → Option Cell → Type 0
 IsPlainTags kind.Int blank = ⊤
@@ -104,18 +99,14 @@ IsPlainTags (kind.Tags separator) blank = (32 ≤ separator) × (separator ≤ 1
 abbrev pub IsNewColumn : List Column → Column → Type 0
 IsNewColumn before column = (is_some (place_of before column.name) ≡ false) × IsPlainTags column.kind column.blank
 
+-- a column of a new name, with decimals or a separator and a blank that do for its kind
+abbrev pub IsSoundNewColumn : List Column → Column → Type 0
+IsSoundNewColumn before column = IsColumn column × IsNewColumn before column
+
 -- a dimension of a new name, over columns
 pub record IsNewDimension (columns : List Column) (before : List DimensionSpec) (dimension : DimensionSpec) : Type 0 where
   pub new : is_some (dimension_named before dimension.name) ≡ false
   pub fits : fits_columns dimension.from columns ≡ true
-
--- the number of a rounding is of its range
-abbrev pub is_sound_rounding : StockRounding → Bool
-is_sound_rounding rounding.Same = true
-is_sound_rounding (rounding.Floor width) = is_width width
-is_sound_rounding rounding.MonthOf = true
-is_sound_rounding rounding.YearOf = true
-is_sound_rounding (rounding.FirstLetters count) = is_letter_count count
 
 -- a group of a new name, of a dimension whose keys it rounds, over columns, in the order of one of its fields
 pub record IsNewGroup (columns : List Column) (dimensions : List DimensionSpec) (before : List GroupSpec) (group : GroupSpec) : Type 0 where
@@ -140,20 +131,20 @@ IsBody columns dimensions groups wholes (body.Bar group field fill) = (field < g
 IsBody columns dimensions groups wholes (body.Line group field fill) =
     (field < group_fields groups group) × (is_colour fill ≡ true) × (is_line_form (group_form dimensions groups group) ≡ true)
 IsBody columns dimensions groups wholes (body.Row group field fill cap others) =
-    (field < group_fields groups group) × (is_colour fill ≡ true) × IfSome cap (λ most. (1 ≤ most) × (most ≤ GREATEST_CAP))
+    (field < group_fields groups group) × (is_colour fill ≡ true) × IfSome cap (λ most. (1 ≤ most) × (most ≤ greatest_cap))
 IsBody columns dimensions groups wholes (body.Heat group field) =
     (field < group_fields groups group) × (is_heat_form (group_form dimensions groups group) ≡ true)
 IsBody columns dimensions groups wholes body.Count = ⊤
 IsBody columns dimensions groups wholes (body.Number whole field) = field < whole_fields wholes whole
 IsBody columns dimensions groups wholes (body.Table dimension names size descending) =
     (is_some (dimension_named dimensions dimension) ≡ true) × AllByRecursion (IsColumnName columns) names
-    × (0 < length names) × (length names ≤ TABLE_COLUMNS) × (1 ≤ size) × (size ≤ GREATEST_TABLE)
+    × (0 < length names) × (length names ≤ most_table_columns) × (1 ≤ size) × (size ≤ greatest_table)
 
 pub record IsChart (columns : List Column) (dimensions : List DimensionSpec) (groups : List GroupSpec) (wholes : List WholeSpec) (chart : ChartSpec) : Type 0 where
-  pub wide : LEAST_WIDTH ≤ chart.width
-  pub width : chart.width ≤ GREATEST_SIDE
-  pub high : LEAST_HEIGHT ≤ chart.height
-  pub height : chart.height ≤ GREATEST_SIDE
+  pub wide : least_width ≤ chart.width
+  pub width : chart.width ≤ greatest_side
+  pub high : least_height ≤ chart.height
+  pub height : chart.height ≤ greatest_side
   pub body : IsBody columns dimensions groups wholes chart.body
 
 abbrev pub IsColour : List ℕ → Type 0
@@ -171,7 +162,7 @@ pub record IsBoard (board : BoardParts) : Type 0 where
   pub few_charts : length board.charts ≤ CHARTS
   pub charts : AllByRecursion (IsChart board.columns board.dimensions board.groups board.wholes) board.charts
   pub some_colours : 0 < length board.colours
-  pub few_colours : length board.colours ≤ COLOURS
+  pub few_colours : length board.colours ≤ most_colours
   pub colours : AllByRecursion IsColour board.colours
 
 -- within limits: few enough dimensions, and groups and wholes together

@@ -1,8 +1,5 @@
 pub mod Board
-pub mod Count
-pub mod Members
-pub mod Printed
-pub mod Reading
-pub mod Values
+pub mod Print
+pub mod PrintSteps
+pub mod Ranges
 pub mod Walk
-pub mod Words

@@ -23,23 +23,23 @@ use Rattle.xf_load.specs.Cell.{cell_of}
 use Rattle.xf_reduce.specs.StockReducer.{stock_field_count}
 use Rattle.xf_reduce.specs.declared.stock_reducer.StockReducer.{StockReducer}
 use Rattle.xf_board.specs.Board.{BoardParts, dimension_named, form_of_group, group_named, is_heat_form, is_line_form, whole_named}
-use Rattle.xf_board.specs.Members.{chart_kind_of, column_word_of}
-use Rattle.xf_board.specs.Reading.{Read, ◌>>=◌, absent, colour, declared, each, ensured, few, filled_array, fitting, if_within, known, member, needed, number, number_below, only_members, optional, unless_taken, word}
-use Rattle.xf_board.specs.Values.{array_of, is_object, whole_number}
-use Rattle.xf_board.specs.Words.{accessor_rule, reducer_rule, rounding_rule}
-use Rattle.xf_board.specs.declared.board_refusal.BoardRefusal.TheVariants as refusal
-use Rattle.xf_board.specs.declared.object_sort.ChartKind.{ChartKind}
-use Rattle.xf_board.specs.declared.object_sort.ChartKind.TheVariants as chart
-use Rattle.xf_board.specs.declared.object_sort.ColumnWord.{ColumnWord}
-use Rattle.xf_board.specs.declared.object_sort.ColumnWord.TheVariants as column
-use Rattle.xf_board.specs.declared.object_sort.ObjectSort.TheVariants as sort
+use Rattle.xf_members.specs.Members.{chart_kind_of, column_word_of}
+use Rattle.xf_members.specs.Reading.{Read, ◌>>=◌, absent, colour, declared, each, ensured, few, filled_array, fitting, if_within, known, member, needed, number, number_below, only_members, optional, unless_taken, word}
+use Rattle.xf_members.specs.Values.{array_of, is_object, whole_number}
+use Rattle.xf_members.specs.Words.{accessor_rule, reducer_rule, rounding_rule}
+use Rattle.xf_members.specs.declared.board_refusal.BoardRefusal.TheVariants as refusal
+use Rattle.xf_members.specs.declared.object_sort.ChartKind.{ChartKind}
+use Rattle.xf_members.specs.declared.object_sort.ChartKind.TheVariants as chart
+use Rattle.xf_members.specs.declared.object_sort.ColumnWord.{ColumnWord}
+use Rattle.xf_members.specs.declared.object_sort.ColumnWord.TheVariants as column
+use Rattle.xf_members.specs.declared.object_sort.ObjectSort.TheVariants as sort
 use Rattle.xf_board.specs.declared.parts.ChartBody.{ChartBody}
 use Rattle.xf_board.specs.declared.parts.ChartBody.TheVariants as body
 use Rattle.xf_board.specs.declared.parts.ChartSpec.{ChartSpec}
 use Rattle.xf_board.specs.declared.parts.DimensionSpec.{DimensionSpec}
 use Rattle.xf_board.specs.declared.parts.GroupSpec.{GroupSpec}
 use Rattle.xf_board.specs.declared.parts.WholeSpec.{WholeSpec}
-use Rattle.xf_board.specs.declared.parts.TheConstants.{COLOURS, GREATEST_CAP, GREATEST_SIDE, GREATEST_TABLE, LEAST_HEIGHT, LEAST_WIDTH, TABLE_COLUMNS, USUAL_HEIGHT, USUAL_TABLE, USUAL_WIDTH}
+use Rattle.xf_board.specs.Ranges.{greatest_cap, greatest_side, greatest_table, least_height, least_width, most_colours, most_table_columns, usual_height, usual_table, usual_width}
 
 -- ---- columns
 
@@ -178,7 +178,7 @@ line_at dimensions groups path value = do
 
 -- a number of rows, or none where it is left out
 abbrev pub cap_rule : Data → Option (Option ℕ)
-cap_rule value = option_map Some (number 1 GREATEST_CAP value)
+cap_rule value = option_map Some (number 1 greatest_cap value)
 
 abbrev pub row_at : List GroupSpec → List ℕ → Data → Read ChartBody
 row_at groups path value = do
@@ -220,9 +220,9 @@ table_at columns dimensions path value = do
   name ← needed as_str path (codes "dimension") value
   dimension ← declared (member path (codes "dimension")) name (dimension_named dimensions name)
   elements ← needed filled_array path (codes "columns") value
-  short ← few (member path (codes "columns")) TABLE_COLUMNS (length elements)
+  short ← few (member path (codes "columns")) most_table_columns (length elements)
   names ← each (table_column columns) (member path (codes "columns")) [] elements
-  size ← optional USUAL_TABLE (number 1 GREATEST_TABLE) path (codes "size") value
+  size ← optional usual_table (number 1 greatest_table) path (codes "size") value
   descending ← optional false (word descending_of) path (codes "order") value
   Ok (body.Table name names size descending)
 
@@ -242,8 +242,8 @@ chart_of columns dimensions groups wholes before path value = do
   kind ← needed (word chart_kind_of) path (codes "kind") value
   members ← only_members (sort.Chart kind) path value
   title ← optional [] as_str path (codes "title") value
-  width ← optional USUAL_WIDTH (number LEAST_WIDTH GREATEST_SIDE) path (codes "width") value
-  height ← optional USUAL_HEIGHT (number LEAST_HEIGHT GREATEST_SIDE) path (codes "height") value
+  width ← optional usual_width (number least_width greatest_side) path (codes "width") value
+  height ← optional usual_height (number least_height greatest_side) path (codes "height") value
   body ← body_at kind columns dimensions groups wholes path value
   Ok (record { title = title; width = width; height = height; body = body })
 
@@ -294,7 +294,7 @@ colour_of before path value = known path (colour value)
 abbrev pub given_colours : Data → Read (List (List ℕ))
 given_colours value = do
   elements ← needed filled_array [] (codes "colours") value
-  short ← few (codes "/colours") COLOURS (length elements)
+  short ← few (codes "/colours") most_colours (length elements)
   each colour_of (codes "/colours") [] elements
 
 abbrev pub colours_at : Data → Read (List (List ℕ))

@@ -1,108 +1,94 @@
 //! The charts of a board.
-ghost use Rattle.std.specs.Prelude.{◌≡◌, ◌<◌, ◌≤◌, [], map, codes, true, None, IfOk, IfSome, List, ℕ, length, Some};
-ghost use Rattle.std.specs.List.{AllByRecursion};
+ghost use Rattle.std.specs.Prelude.{◌≡◌, ◌<◌, ◌≤◌, codes, true, None, IfOk, IfSome, List, Some};
 ghost use Rattle.serde_json.specs.View.{view};
 ghost use Rattle.xf_access.specs.Stock.{form_of};
 ghost use Rattle.xf_base.specs.declared.column.Column.{Column};
 ghost use Rattle.xf_board.specs.Board.{IsBody, IsChart, dimension_named, form_named, form_of_group, group_named, is_heat_form, is_line_form};
-ghost use Rattle.xf_board.specs.Members.{chart_kind_of};
-ghost use Rattle.xf_board.specs.Reading.{Answers, Gives, colour, declared, each, is_colour, member, needed, optional, word};
+ghost use Rattle.xf_members.specs.Members.{chart_kind_of};
+ghost use Rattle.xf_board.specs.Ranges.{greatest_cap};
+ghost use Rattle.xf_members.specs.Reading.{Answers, Gives, colour, declared, is_colour, member, needed, optional, word};
 ghost use Rattle.xf_board.specs.Walk.{bar_at, body_at, cap_rule, chart_of, fill_at, group_at, heat_at, line_at, number_at, row_at};
 ghost use Rattle.xf_board.specs.declared.parts.ChartSpec.{ChartSpec};
 ghost use Rattle.xf_board.specs.declared.parts.DimensionSpec.{DimensionSpec};
 ghost use Rattle.xf_board.specs.declared.parts.GroupSpec.{GroupSpec};
 ghost use Rattle.xf_board.specs.declared.parts.WholeSpec.{WholeSpec};
 
-use crate::board_refusal::BoardRefusal;
-use crate::colour::colour;
 use crate::dimension::dimension_named;
 use crate::group::{field_at, group_named};
-use crate::object_sort::{ChartKind, ObjectSort, chart_kind_of};
 use crate::parts::{
-    ChartBody, ChartList, ChartSpec, DimensionSpec, GREATEST_CAP, GREATEST_SIDE, GroupSpec,
-    LEAST_HEIGHT, LEAST_WIDTH, USUAL_HEIGHT, USUAL_WIDTH, WholeSpec,
-};
-use crate::path::element;
-use crate::rule::{
-    ensured, number, number_or, object_at, only_members, text_at, text_of, text_or, wrong_field,
-    wrong_name,
+    ChartBody, ChartSpec, DimensionSpec, GREATEST_CAP, GREATEST_SIDE, GroupSpec, LEAST_HEIGHT,
+    LEAST_WIDTH, USUAL_HEIGHT, USUAL_WIDTH, WholeSpec,
 };
 use crate::table::table_at;
 use crate::whole::whole_named;
 use serde_json::Value;
 use std::alloc::Global;
-use xf_base::{AtomForm, KeyForm, ListOf, Schema, Text};
+use xf_base::{AtomForm, KeyForm, Schema, Text};
+use xf_members::{
+    BoardRefusal, ChartKind, ElementRule, ObjectSort, chart_kind_of, colour_of, ensured, number,
+    number_or, object_at, only_members, text_at, text_of, text_or, wrong_field, wrong_name,
+};
 
-/// The charts that elements say.
-pub fn charts_of(
-    alloc: Global,
-    schema: &Schema,
-    dimensions: &[DimensionSpec],
-    groups: &[GroupSpec],
-    wholes: &[WholeSpec],
-    values: &[Value],
-) -> Result<ChartList, BoardRefusal>
-    ensures exact { Answers result (each (chart_of schema.now dimensions.now groups.now wholes.now) (codes "/charts") [] (map view values.now)) }
-    ensures sound { IfOk result (AllByRecursion (IsChart schema.now dimensions.now groups.now wholes.now)) }
-    ensures all { IfOk result (λ all. length all ≡ length values.now) }
-{
-    let mut charts = ListOf::new(alloc);
-    for value in values {
-        let path = element(alloc, "/charts", charts.len())?;
-        let chart = chart_of(
-            alloc,
-            schema,
-            dimensions,
-            groups,
-            wholes,
-            path.as_str(),
-            value,
-        )?;
-        charts.push(chart)?;
-    }
-    Ok(charts)
+/// How the charts of a board are read, over its columns, dimensions, groups and wholes.
+#[derive(Clone, Copy)]
+pub struct ChartRule<'a> {
+    pub schema: &'a Schema,
+    pub dimensions: &'a [DimensionSpec],
+    pub groups: &'a [GroupSpec],
+    pub wholes: &'a [WholeSpec],
 }
 
-/// A chart.
-fn chart_of(
-    alloc: Global,
-    schema: &Schema,
-    dimensions: &[DimensionSpec],
-    groups: &[GroupSpec],
-    wholes: &[WholeSpec],
-    path: &str,
-    value: &Value,
-) -> Result<ChartSpec, BoardRefusal>
-    ensures exact { (before : List ChartSpec) → Answers result (chart_of schema.now dimensions.now groups.now wholes.now before path.now (view value.now)) }
-    ensures sound { IfOk result (IsChart schema.now dimensions.now groups.now wholes.now) }
-{
-    object_at(alloc, path, value)?;
-    let kind = chart_kind_at(alloc, path, value)?;
-    only_members(alloc, ObjectSort::Chart(kind), path, value)?;
-    let title = text_or(alloc, "", path, "title", value)?;
-    let width = number_or(
-        alloc,
-        USUAL_WIDTH,
-        (LEAST_WIDTH, GREATEST_SIDE),
-        path,
-        "width",
-        value,
-    )?;
-    let height = number_or(
-        alloc,
-        USUAL_HEIGHT,
-        (LEAST_HEIGHT, GREATEST_SIDE),
-        path,
-        "height",
-        value,
-    )?;
-    let body = body_at(alloc, kind, schema, dimensions, groups, wholes, path, value)?;
-    Ok(ChartSpec {
-        title,
-        width: width as u32,
-        height: height as u32,
-        body,
-    })
+impl<'a> ElementRule for ChartRule<'a> {
+    type Item = ChartSpec;
+
+    ghost walk = { λ rule. chart_of rule.schema.now rule.dimensions.now rule.groups.now rule.wholes.now };
+
+    ghost Keeps = { λ rule before. IsChart rule.schema.now rule.dimensions.now rule.groups.now rule.wholes.now };
+
+    fn read(
+        &self,
+        alloc: Global,
+        _before: &[ChartSpec],
+        path: &str,
+        value: &Value,
+    ) -> Result<ChartSpec, BoardRefusal> {
+        object_at(alloc, path, value)?;
+        let kind = chart_kind_at(alloc, path, value)?;
+        only_members(alloc, ObjectSort::Chart(kind), path, value)?;
+        let title = text_or(alloc, "", path, "title", value)?;
+        let width = number_or(
+            alloc,
+            USUAL_WIDTH,
+            (LEAST_WIDTH, GREATEST_SIDE),
+            path,
+            "width",
+            value,
+        )?;
+        let height = number_or(
+            alloc,
+            USUAL_HEIGHT,
+            (LEAST_HEIGHT, GREATEST_SIDE),
+            path,
+            "height",
+            value,
+        )?;
+        let body = body_at(
+            alloc,
+            kind,
+            self.schema,
+            self.dimensions,
+            self.groups,
+            self.wholes,
+            path,
+            value,
+        )?;
+        Ok(ChartSpec {
+            title,
+            width: width as u32,
+            height: height as u32,
+            body,
+        })
+    }
 }
 
 /// The kind of a chart.
@@ -167,7 +153,7 @@ fn fill_at(alloc: Global, path: &str, value: &Value) -> Result<Text, BoardRefusa
     ensures sound { IfOk result (λ fill. is_colour fill ≡ true) }
 {
     let fill = match value.get("fill") {
-        Some(fill) => colour(fill),
+        Some(fill) => colour_of(fill),
         None => Some("#336699"),
     };
     match fill {
@@ -238,7 +224,7 @@ fn row_at(
 /// The number of rows of a chart of rows; None where it is left out.
 fn cap_at(alloc: Global, path: &str, value: &Value) -> Result<Option<u32>, BoardRefusal>
     ensures exact { Answers result (optional None cap_rule path.now (codes "cap") (view value.now)) }
-    ensures within { IfOk result (λ cap. IfSome cap (λ most. (1 ≤ most) × (most ≤ GREATEST_CAP))) }
+    ensures within { IfOk result (λ cap. IfSome cap (λ most. (1 ≤ most) × (most ≤ greatest_cap))) }
 {
     let Some(cap) = value.get("cap") else {
         return Ok(None);

@@ -1,70 +1,35 @@
-//! Colours.
-ghost use Rattle.std.specs.Prelude.{◌≡◌, [], map, codes, true, length, option_map, IfOk, IfSome, List, ℕ};
-ghost use Rattle.std.specs.Char.{is_ascii_hexdigit};
-ghost use Rattle.std.specs.List.{AllByRecursion, list_all};
-ghost use Rattle.serde_json.specs.View.{view};
+//! The colours of a board.
+ghost use Rattle.std.specs.Prelude.{◌≡◌, codes, IfOk};
 ghost use Rattle.xf_board.specs.Board.{IsColour};
-ghost use Rattle.xf_board.specs.Reading.{Answers, colour, each, is_colour};
 ghost use Rattle.xf_board.specs.Walk.{colour_of, usual_colours};
 
-use crate::board_refusal::BoardRefusal;
-use crate::path::element;
-use crate::rule::wrong_element;
 use serde_json::Value;
 use std::alloc::Global;
 use xf_base::{ListOf, OutOfMemory, Text, TextList};
+use xf_members::{BoardRefusal, ElementRule, colour_of, wrong_element};
 
-/// Whether a text is a colour: `#` and six hexadecimal digits.
-fn is_colour(text: &str) -> bool
-    ensures { result ≡ is_colour text.now }
-{
-    match text.as_bytes() {
-        [first, digits @ ..] => *first == b'#' && digits.len() == 6 && are_hexadecimal(digits),
-        [] => false,
-    }
-}
+/// How the colours of a board are read.
+#[derive(Clone, Copy)]
+pub struct ColourRule;
 
-/// Whether all bytes are hexadecimal digits.
-fn are_hexadecimal(digits: &[u8]) -> bool
-    ensures { result ≡ list_all is_ascii_hexdigit digits.now }
-{
-    digits.iter().all(|digit| digit.is_ascii_hexdigit())
-}
+impl ElementRule for ColourRule {
+    type Item = Text;
 
-/// The colour that a value is.
-pub fn colour(value: &Value) -> Option<&str>
-    ensures exact { option_map (λ text. text.now) result ≡ colour (view value.now) }
-    ensures sound { IfSome result (λ text. is_colour text.now ≡ true) }
-{
-    match value.as_str() {
-        Some(text) if is_colour(text) => Some(text),
-        _ => None,
-    }
-}
+    ghost walk = { λ rule. colour_of };
 
-/// The colours that elements say.
-pub fn colours_of(alloc: Global, values: &[Value]) -> Result<TextList, BoardRefusal>
-    ensures exact { Answers result (each colour_of (codes "/colours") [] (map view values.now)) }
-    ensures sound { IfOk result (AllByRecursion IsColour) }
-    ensures all { IfOk result (λ colours. length colours ≡ length values.now) }
-{
-    let mut colours = ListOf::new(alloc);
-    for value in values {
-        let path = element(alloc, "/colours", colours.len())?;
-        let colour = colour_of(alloc, path.as_str(), value)?;
-        colours.push(colour)?;
-    }
-    Ok(colours)
-}
+    ghost Keeps = { λ rule before. IsColour };
 
-/// A colour.
-fn colour_of(alloc: Global, path: &str, value: &Value) -> Result<Text, BoardRefusal>
-    ensures exact { (before : List (List ℕ)) → Answers result (colour_of before path.now (view value.now)) }
-    ensures sound { IfOk result IsColour }
-{
-    match colour(value) {
-        Some(text) => Ok(Text::of(alloc, text)?),
-        None => wrong_element(alloc, path),
+    fn read(
+        &self,
+        alloc: Global,
+        _before: &[Text],
+        path: &str,
+        value: &Value,
+    ) -> Result<Text, BoardRefusal> {
+        match colour_of(value) {
+            Some(text) => Ok(Text::of(alloc, text)?),
+            None => wrong_element(alloc, path),
+        }
     }
 }
 

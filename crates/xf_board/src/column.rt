@@ -1,64 +1,77 @@
 //! The columns of a board.
-ghost use Rattle.std.specs.Prelude.{◌≡◌, ◌<◌, ◌≤◌, [], map, None, IfOk, IfSome, codes, length};
+ghost use Rattle.std.specs.Prelude.{◌≡◌, ◌<◌, ◌≤◌, None, IfOk, IfSome, codes};
+ghost use Rattle.std.specs.List.{AllByRecursion};
 ghost use Rattle.serde_json.specs.View.{view};
-ghost use Rattle.xf_base.specs.Schema.{IsCellOf, IsColumn, IsSoundKind};
-ghost use Rattle.xf_board.specs.Board.{AllAfter, IsNewColumn, IsPlainTags};
-ghost use Rattle.xf_board.specs.Members.{column_word_of};
-ghost use Rattle.xf_board.specs.Reading.{Answers, each, needed, word};
+ghost use Rattle.xf_base.specs.Schema.{IsCellOf, IsColumn, IsSoundKind, place_of};
+ghost use Rattle.xf_board.specs.Board.{IsPlainTags, IsSoundNewColumn};
+ghost use Rattle.xf_members.specs.Members.{column_word_of};
+ghost use Rattle.xf_members.specs.Reading.{Answers, needed, word};
 ghost use Rattle.xf_board.specs.Walk.{blank_at, blank_rule, column_of, decimals_at, kind_of, separator_at, separator_of};
 
-use crate::board_refusal::BoardRefusal;
-use crate::object_sort::{ColumnWord, ObjectSort, column_word_of};
-use crate::path::element;
-use crate::rule::{
-    absent, number, object_at, only_members, text_at, text_of, unless_taken, wrong_field,
-};
 use serde_json::Value;
 use std::alloc::Global;
-use xf_base::{Cell, Column, ColumnKind, Schema};
+use xf_base::{Cell, Column, ColumnKind, ListOf, OutOfMemory, Schema};
 use xf_load::{ReadCellFault, read_cell};
+use xf_members::{
+    BoardRefusal, ColumnWord, ElementRule, ObjectSort, absent, column_word_of, number, object_at,
+    only_members, text_at, text_of, unless_taken, wrong_field,
+};
 
-/// The columns that elements say.
-pub fn columns_of(alloc: Global, values: &[Value]) -> Result<Schema, BoardRefusal>
-    ensures exact { Answers result (each column_of (codes "/columns") [] (map view values.now)) }
-    ensures sound { IfOk result (AllAfter IsNewColumn []) }
-    ensures all { IfOk result (λ all. length all ≡ length values.now) }
+/// How the columns of a board are read.
+#[derive(Clone, Copy)]
+pub struct ColumnRule;
+
+impl ElementRule for ColumnRule {
+    type Item = Column;
+
+    ghost walk = { λ rule. column_of };
+
+    ghost Keeps = { λ rule. IsSoundNewColumn };
+
+    fn read(
+        &self,
+        alloc: Global,
+        before: &[Column],
+        path: &str,
+        value: &Value,
+    ) -> Result<Column, BoardRefusal> {
+        object_at(alloc, path, value)?;
+        only_members(alloc, ObjectSort::Column, path, value)?;
+        let name = text_at(alloc, path, "name", value)?;
+        let taken = place_of(before, name.as_str()).is_some();
+        unless_taken(alloc, taken, path, name.as_str())?;
+        let word = column_word_at(alloc, path, value)?;
+        let decimals = decimals_at(alloc, word, path, value)?;
+        let separator = separator_at(alloc, word, path, value)?;
+        let column = Column {
+            name,
+            kind: kind_of(word, decimals, separator),
+            blank: None,
+        };
+        let blank = blank_at(alloc, word, &column, path, value)?;
+        Ok(Column { blank, ..column })
+    }
+}
+
+/// The place of the first column of a name.
+fn place_of(columns: &[Column], name: &str) -> Option<usize>
+    ensures { result ≡ place_of columns.now name.now }
+{
+    columns
+        .iter()
+        .position(|column| column.name.as_str() == name)
+}
+
+/// Columns as a schema.
+pub fn schema_of(alloc: Global, columns: ListOf<Column>) -> Result<Schema, OutOfMemory>
+    requires { AllByRecursion IsColumn columns }
+    ensures { IfOk result (λ schema. schema ≡ columns) }
 {
     let mut schema = Schema::new(alloc);
-    for value in values {
-        let path = element(alloc, "/columns", schema.len())?;
-        let column = column_of(alloc, &schema, path.as_str(), value)?;
+    for column in columns.into_vec() {
         schema.push(column)?;
     }
     Ok(schema)
-}
-
-/// A column beside those before it.
-fn column_of(
-    alloc: Global,
-    before: &Schema,
-    path: &str,
-    value: &Value,
-) -> Result<Column, BoardRefusal>
-    ensures exact { Answers result (column_of before.now path.now (view value.now)) }
-    ensures sound { IfOk result IsColumn }
-    ensures new { IfOk result (IsNewColumn before.now) }
-{
-    object_at(alloc, path, value)?;
-    only_members(alloc, ObjectSort::Column, path, value)?;
-    let name = text_at(alloc, path, "name", value)?;
-    let taken = before.place_of(name.as_str().as_bytes()).is_some();
-    unless_taken(alloc, taken, path, name.as_str())?;
-    let word = column_word_at(alloc, path, value)?;
-    let decimals = decimals_at(alloc, word, path, value)?;
-    let separator = separator_at(alloc, word, path, value)?;
-    let column = Column {
-        name,
-        kind: kind_of(word, decimals, separator),
-        blank: None,
-    };
-    let blank = blank_at(alloc, word, &column, path, value)?;
-    Ok(Column { blank, ..column })
 }
 
 /// The word for the kind of a column.

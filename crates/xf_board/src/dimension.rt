@@ -1,61 +1,51 @@
 //! The dimensions of a board.
-ghost use Rattle.std.specs.Prelude.{◌≡◌, [], map, true, find, option_copied, IfOk, codes, length};
+ghost use Rattle.std.specs.Prelude.{◌≡◌, true, find, option_copied, IfOk, codes};
 ghost use Rattle.serde_json.specs.View.{view};
 ghost use Rattle.xf_access.specs.Stock.{fits_columns};
-ghost use Rattle.xf_board.specs.Board.{AllAfter, IsNewDimension, dimension_named};
-ghost use Rattle.xf_board.specs.Reading.{Answers, each, needed};
+ghost use Rattle.xf_board.specs.Board.{IsNewDimension, dimension_named};
+ghost use Rattle.xf_members.specs.Reading.{Answers, needed};
 ghost use Rattle.xf_board.specs.Walk.{accessor_at, dimension_of};
-ghost use Rattle.xf_board.specs.Words.{accessor_rule};
+ghost use Rattle.xf_members.specs.Words.{accessor_rule};
 
-use crate::board_refusal::BoardRefusal;
-use crate::object_sort::ObjectSort;
-use crate::parts::{DimensionList, DimensionSpec};
-use crate::path::element;
-use crate::rule::{object_at, only_members, text_at, unless_taken, wrong_column, wrong_field};
-use crate::words::accessor_rule;
+use crate::parts::DimensionSpec;
 use serde_json::Value;
 use std::alloc::Global;
 use xf_access::StockAccessor;
-use xf_base::{ListOf, Schema};
+use xf_base::Schema;
 use xf_columns::{AccessorWords, accessor_of};
+use xf_members::{
+    BoardRefusal, ElementRule, ObjectSort, accessor_rule, object_at, only_members, text_at,
+    unless_taken, wrong_column, wrong_field,
+};
 
-/// The dimensions that elements say.
-pub fn dimensions_of(
-    alloc: Global,
-    schema: &Schema,
-    values: &[Value],
-) -> Result<DimensionList, BoardRefusal>
-    ensures exact { Answers result (each (dimension_of schema.now) (codes "/dimensions") [] (map view values.now)) }
-    ensures sound { IfOk result (AllAfter (IsNewDimension schema.now) []) }
-    ensures all { IfOk result (λ all. length all ≡ length values.now) }
-{
-    let mut dimensions = ListOf::new(alloc);
-    for value in values {
-        let path = element(alloc, "/dimensions", dimensions.len())?;
-        let dimension = dimension_of(alloc, schema, dimensions.as_slice(), path.as_str(), value)?;
-        dimensions.push(dimension)?;
-    }
-    Ok(dimensions)
+/// How the dimensions of a board are read, over its columns.
+#[derive(Clone, Copy)]
+pub struct DimensionRule<'a> {
+    pub schema: &'a Schema,
 }
 
-/// A dimension beside those before it.
-fn dimension_of(
-    alloc: Global,
-    schema: &Schema,
-    before: &[DimensionSpec],
-    path: &str,
-    value: &Value,
-) -> Result<DimensionSpec, BoardRefusal>
-    ensures exact { Answers result (dimension_of schema.now before.now path.now (view value.now)) }
-    ensures new { IfOk result (IsNewDimension schema.now before.now) }
-{
-    object_at(alloc, path, value)?;
-    only_members(alloc, ObjectSort::Dimension, path, value)?;
-    let name = text_at(alloc, path, "name", value)?;
-    let taken = dimension_named(before, name.as_str()).is_some();
-    unless_taken(alloc, taken, path, name.as_str())?;
-    let from = accessor_at(alloc, schema, path, value)?;
-    Ok(DimensionSpec { name, from })
+impl<'a> ElementRule for DimensionRule<'a> {
+    type Item = DimensionSpec;
+
+    ghost walk = { λ rule. dimension_of rule.schema.now };
+
+    ghost Keeps = { λ rule. IsNewDimension rule.schema.now };
+
+    fn read(
+        &self,
+        alloc: Global,
+        before: &[DimensionSpec],
+        path: &str,
+        value: &Value,
+    ) -> Result<DimensionSpec, BoardRefusal> {
+        object_at(alloc, path, value)?;
+        only_members(alloc, ObjectSort::Dimension, path, value)?;
+        let name = text_at(alloc, path, "name", value)?;
+        let taken = dimension_named(before, name.as_str()).is_some();
+        unless_taken(alloc, taken, path, name.as_str())?;
+        let from = accessor_at(alloc, self.schema, path, value)?;
+        Ok(DimensionSpec { name, from })
+    }
 }
 
 /// The dimension of a name.

@@ -1,88 +1,67 @@
 //! The groups of a board.
-ghost use Rattle.std.specs.Prelude.{◌≡◌, ◌<◌, [], map, true, find, option_copied, IfOk, codes, length, Some};
+ghost use Rattle.std.specs.Prelude.{◌≡◌, ◌<◌, true, find, option_copied, IfOk, codes, Some};
 ghost use Rattle.serde_json.specs.View.{view};
 ghost use Rattle.xf_access.specs.Stock.{form_of};
 ghost use Rattle.xf_access.specs.declared.stock_rounding.StockRounding.TheVariants as rounding;
-ghost use Rattle.xf_board.specs.Board.{AllAfter, IsNewGroup, dimension_named, group_named, is_sound_rounding};
-ghost use Rattle.xf_board.specs.Reading.{Answers, Gives, declared, each, member, needed, number_below, optional};
+ghost use Rattle.xf_board.specs.Board.{IsNewGroup, dimension_named, group_named};
+ghost use Rattle.xf_members.specs.Reading.{Answers, Gives, declared, member, needed, number_below, optional};
 ghost use Rattle.xf_board.specs.Walk.{group_of, reducer_at, rounding_at};
-ghost use Rattle.xf_board.specs.Words.{reducer_rule, rounding_rule};
+ghost use Rattle.xf_members.specs.Words.{is_sound_rounding, reducer_rule, rounding_rule};
 ghost use Rattle.xf_columns.specs.Columns.{applies};
 ghost use Rattle.xf_reduce.specs.StockReducer.{stock_field_count, stock_fits};
 
-use crate::board_refusal::BoardRefusal;
 use crate::dimension::dimension_named;
-use crate::object_sort::ObjectSort;
-use crate::parts::{DimensionSpec, GroupList, GroupSpec};
-use crate::path::element;
-use crate::rule::{
-    ensured, field_or, object_at, only_members, text_at, unless_taken, wrong_column, wrong_field,
-    wrong_name,
-};
-use crate::words::{reducer_rule, rounding_rule};
+use crate::parts::{DimensionSpec, GroupSpec};
 use serde_json::Value;
 use std::alloc::Global;
 use xf_access::StockRounding;
-use xf_base::{KeyForm, ListOf, Schema};
+use xf_base::{KeyForm, Schema};
 use xf_columns::{ReducerWords, applies, reducer_of};
+use xf_members::{
+    BoardRefusal, ElementRule, ObjectSort, ensured, field_or, object_at, only_members,
+    reducer_rule, rounding_rule, text_at, unless_taken, wrong_column, wrong_field, wrong_name,
+};
 use xf_reduce::{Reducer, StockReducer};
 
-/// The groups that elements say.
-pub fn groups_of(
-    alloc: Global,
-    schema: &Schema,
-    dimensions: &[DimensionSpec],
-    values: &[Value],
-) -> Result<GroupList, BoardRefusal>
-    ensures exact { Answers result (each (group_of schema.now dimensions.now) (codes "/groups") [] (map view values.now)) }
-    ensures sound { IfOk result (AllAfter (IsNewGroup schema.now dimensions.now) []) }
-    ensures all { IfOk result (λ all. length all ≡ length values.now) }
-{
-    let mut groups = ListOf::new(alloc);
-    for value in values {
-        let path = element(alloc, "/groups", groups.len())?;
-        let group = group_of(
-            alloc,
-            schema,
-            dimensions,
-            groups.as_slice(),
-            path.as_str(),
-            value,
-        )?;
-        groups.push(group)?;
-    }
-    Ok(groups)
+/// How the groups of a board are read, over its columns and of its dimensions.
+#[derive(Clone, Copy)]
+pub struct GroupRule<'a> {
+    pub schema: &'a Schema,
+    pub dimensions: &'a [DimensionSpec],
 }
 
-/// A group beside those before it.
-fn group_of(
-    alloc: Global,
-    schema: &Schema,
-    dimensions: &[DimensionSpec],
-    before: &[GroupSpec],
-    path: &str,
-    value: &Value,
-) -> Result<GroupSpec, BoardRefusal>
-    ensures exact { Answers result (group_of schema.now dimensions.now before.now path.now (view value.now)) }
-    ensures new { IfOk result (IsNewGroup schema.now dimensions.now before.now) }
-{
-    object_at(alloc, path, value)?;
-    only_members(alloc, ObjectSort::Group, path, value)?;
-    let name = text_at(alloc, path, "name", value)?;
-    let taken = group_named(before, name.as_str()).is_some();
-    unless_taken(alloc, taken, path, name.as_str())?;
-    let of = text_at(alloc, path, "of", value)?;
-    let dimension = dimension_at(alloc, dimensions, path, "of", of.as_str())?;
-    let round = rounding_at(alloc, dimension.from.form(), path, value)?;
-    let reduce = reducer_at(alloc, schema, path, value)?;
-    let order = field_at(alloc, &reduce, path, "order", value)?;
-    Ok(GroupSpec {
-        name,
-        of,
-        round,
-        reduce,
-        order,
-    })
+impl<'a> ElementRule for GroupRule<'a> {
+    type Item = GroupSpec;
+
+    ghost walk = { λ rule. group_of rule.schema.now rule.dimensions.now };
+
+    ghost Keeps = { λ rule. IsNewGroup rule.schema.now rule.dimensions.now };
+
+    fn read(
+        &self,
+        alloc: Global,
+        before: &[GroupSpec],
+        path: &str,
+        value: &Value,
+    ) -> Result<GroupSpec, BoardRefusal> {
+        object_at(alloc, path, value)?;
+        only_members(alloc, ObjectSort::Group, path, value)?;
+        let name = text_at(alloc, path, "name", value)?;
+        let taken = group_named(before, name.as_str()).is_some();
+        unless_taken(alloc, taken, path, name.as_str())?;
+        let of = text_at(alloc, path, "of", value)?;
+        let dimension = dimension_at(alloc, self.dimensions, path, "of", of.as_str())?;
+        let round = rounding_at(alloc, dimension.from.form(), path, value)?;
+        let reduce = reducer_at(alloc, self.schema, path, value)?;
+        let order = field_at(alloc, &reduce, path, "order", value)?;
+        Ok(GroupSpec {
+            name,
+            of,
+            round,
+            reduce,
+            order,
+        })
+    }
 }
 
 /// The group of a name.

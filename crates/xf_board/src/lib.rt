@@ -1,35 +1,35 @@
 //! Boards: a dashboard as one JSON document.
 //!
-//! It stands on schemas and limits, on the fields of files for a column's blank, on the stock of accessors, roundings and
-//! reducers and their words, and on `serde_json`. Its one promise: a text is read exactly where it is of the format, as the
-//! board that the format says, and else refused for the first rule that it breaks, with the path of the place.
+//! A board declares columns, dimensions, groups and wholes by name, and charts that draw them. It stands on the rules for
+//! members and elements, on schemas and limits, on the fields of files for a column's blank, and on the stock. Its one
+//! promise: a text is read exactly where it is of the format, as the board that the format says, and else refused for the
+//! first rule that it breaks, with the path of the place.
 #![tactic(auto)]
 
 mod board;
-mod board_refusal;
 mod chart;
 mod colour;
 mod column;
-mod count;
 mod dimension;
 mod group;
-mod object_sort;
 mod parts;
-mod path;
-mod put_refusal;
+mod print;
+mod print_chart;
+mod print_column;
+mod print_parts;
+mod print_words;
+mod printed;
 mod read;
-mod rule;
 mod table;
-mod value;
 mod whole;
-mod words;
 
 pub use board::Board;
-pub use board_refusal::BoardRefusal;
+pub use colour::usual_colours;
 pub use parts::{
     COLOURS, ChartBody, ChartList, ChartSpec, DimensionList, DimensionSpec, GREATEST_CAP,
     GREATEST_SIDE, GREATEST_TABLE, GroupList, GroupSpec, LEAST_HEIGHT, LEAST_WIDTH, TABLE_COLUMNS,
     USUAL_HEIGHT, USUAL_TABLE, USUAL_WIDTH, WholeList, WholeSpec,
 };
-pub use put_refusal::put_board_refusal;
+pub use print::print_board;
 pub use read::{MOST_OPENERS, read_board};
+pub use xf_members::{BoardRefusal, put_board_refusal};

@@ -3,33 +3,31 @@ ghost use Rattle.std.specs.Prelude.{◌≡◌, ◌<◌, ◌≤◌, length, Err, 
 ghost use Rattle.std.specs.List.{AllByRecursion};
 ghost use Rattle.serde_json.specs.View.{view};
 ghost use Rattle.xf_board.specs.Board.{AllAfter, IsNewColumn, IsNewDimension, IsNewGroup, IsNewWhole, IsChart, IsColour};
-ghost use Rattle.xf_board.specs.Count.{openers};
-ghost use Rattle.xf_board.specs.Reading.{Answers};
+ghost use Rattle.xf_members.specs.Count.{most_openers, openers};
+ghost use Rattle.xf_board.specs.Ranges.{most_colours};
+ghost use Rattle.xf_members.specs.Reading.{Answers};
 ghost use Rattle.xf_board.specs.Walk.{board_in, board_of, charts_at, colours_at, columns_at, dimensions_at, given_colours, groups_at, json_of, version_at, wholes_at, without_mark};
-ghost use Rattle.xf_board.specs.declared.board_refusal.BoardRefusal.TheVariants as refusal;
-ghost use Rattle.xf_board.specs.declared.count.Place.TheVariants.{Outside};
+ghost use Rattle.xf_members.specs.declared.board_refusal.BoardRefusal.TheVariants as refusal;
+ghost use Rattle.xf_members.specs.declared.count.Place.TheVariants.{Outside};
 ghost use Rattle.xf_board.specs.declared.parts.GroupSpec.{GroupSpec};
 
 use crate::board::Board;
-use crate::board_refusal::BoardRefusal;
-use crate::chart::charts_of;
-use crate::colour::{colours_of, usual_colours};
-use crate::column::columns_of;
-use crate::count::has_more_openers;
-use crate::dimension::dimensions_of;
-use crate::group::groups_of;
-use crate::object_sort::ObjectSort;
+use crate::chart::ChartRule;
+use crate::colour::{ColourRule, usual_colours};
+use crate::column::{ColumnRule, schema_of};
+use crate::dimension::DimensionRule;
+use crate::group::GroupRule;
 use crate::parts::{
     COLOURS, ChartList, DimensionList, DimensionSpec, GroupList, GroupSpec, WholeList, WholeSpec,
 };
-use crate::rule::{
-    array_at, array_or_none, few, filled_array_at, only_members, text_or, wrong_field,
-};
-use crate::value::whole_number;
-use crate::whole::wholes_of;
+use crate::whole::WholeRule;
 use serde_json::Value;
 use std::alloc::Global;
 use xf_base::{Limits, Schema, TextList};
+use xf_members::{
+    BoardRefusal, ObjectSort, array_at, array_or_none, elements_of, few, filled_array_at,
+    has_more_openers, only_members, text_or, whole_number, wrong_field,
+};
 
 /// The most commas and beginnings of arrays and objects, outside of its texts, that a board is read with. A JSON text has one
 /// value more at most. A board that names each member once has fewer than 4,000 values.
@@ -39,7 +37,7 @@ pub const MOST_OPENERS: u64 = 100_000;
 /// `MOST_OPENERS` values is not read at all, and answered as if memory was refused.
 pub fn read_board(alloc: Global, bytes: &[u8]) -> Result<Board, BoardRefusal>
     ensures exact { Answers result (board_in bytes.now) }
-    ensures many { MOST_OPENERS < openers Outside (without_mark bytes.now) → result ≡ Err refusal.OutOfMemory }
+    ensures many { most_openers < openers Outside (without_mark bytes.now) → result ≡ Err refusal.OutOfMemory }
 {
     let bytes = without_mark(bytes);
     if has_more_openers(bytes, MOST_OPENERS) {
@@ -119,7 +117,8 @@ fn columns_at(alloc: Global, value: &Value) -> Result<Schema, BoardRefusal>
 {
     let elements = array_at(alloc, "", "columns", value)?;
     few(alloc, "/columns", Limits::COLUMNS, elements.len())?;
-    columns_of(alloc, elements)
+    let columns = elements_of(alloc, &ColumnRule, "/columns", elements)?;
+    Ok(schema_of(alloc, columns)?)
 }
 
 /// The dimensions.
@@ -133,7 +132,7 @@ fn dimensions_at(
 {
     let elements = array_at(alloc, "", "dimensions", value)?;
     few(alloc, "/dimensions", Limits::DIMENSIONS, elements.len())?;
-    dimensions_of(alloc, schema, elements)
+    elements_of(alloc, &DimensionRule { schema }, "/dimensions", elements)
 }
 
 /// The groups.
@@ -148,7 +147,12 @@ fn groups_at(
 {
     let elements = array_or_none(alloc, "", "groups", value)?;
     few(alloc, "/groups", Limits::GROUPS, elements.len())?;
-    groups_of(alloc, schema, dimensions, elements)
+    elements_of(
+        alloc,
+        &GroupRule { schema, dimensions },
+        "/groups",
+        elements,
+    )
 }
 
 /// The wholes, which are counted with the groups.
@@ -164,7 +168,7 @@ fn wholes_at(
 {
     let elements = array_or_none(alloc, "", "wholes", value)?;
     few(alloc, "/wholes", Limits::GROUPS, groups + elements.len())?;
-    wholes_of(alloc, schema, elements)
+    elements_of(alloc, &WholeRule { schema }, "/wholes", elements)
 }
 
 /// The charts.
@@ -181,13 +185,19 @@ fn charts_at(
 {
     let elements = array_or_none(alloc, "", "charts", value)?;
     few(alloc, "/charts", Limits::CHARTS, elements.len())?;
-    charts_of(alloc, schema, dimensions, groups, wholes, elements)
+    let rule = ChartRule {
+        schema,
+        dimensions,
+        groups,
+        wholes,
+    };
+    elements_of(alloc, &rule, "/charts", elements)
 }
 
 /// The colours.
 fn colours_at(alloc: Global, value: &Value) -> Result<TextList, BoardRefusal>
     ensures exact { Answers result (colours_at (view value.now)) }
-    ensures sound { IfOk result (λ colours. (0 < length colours) × (length colours ≤ COLOURS) × AllByRecursion IsColour colours) }
+    ensures sound { IfOk result (λ colours. (0 < length colours) × (length colours ≤ most_colours) × AllByRecursion IsColour colours) }
 {
     if value.get("colours").is_none() {
         return Ok(usual_colours(alloc)?);
@@ -197,9 +207,9 @@ fn colours_at(alloc: Global, value: &Value) -> Result<TextList, BoardRefusal>
 
 fn given_colours(alloc: Global, value: &Value) -> Result<TextList, BoardRefusal>
     ensures exact { Answers result (given_colours (view value.now)) }
-    ensures sound { IfOk result (λ colours. (0 < length colours) × (length colours ≤ COLOURS) × AllByRecursion IsColour colours) }
+    ensures sound { IfOk result (λ colours. (0 < length colours) × (length colours ≤ most_colours) × AllByRecursion IsColour colours) }
 {
     let elements = filled_array_at(alloc, "", "colours", value)?;
     few(alloc, "/colours", COLOURS, elements.len())?;
-    colours_of(alloc, elements)
+    elements_of(alloc, &ColourRule, "/colours", elements)
 }
