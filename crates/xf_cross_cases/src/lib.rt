@@ -9,4 +9,6 @@ mod access;
 #[cfg(test)]
 mod filter;
 #[cfg(test)]
+mod see;
+#[cfg(test)]
 mod told;

@@ -11,4 +11,6 @@ mod named;
 #[cfg(test)]
 mod own;
 #[cfg(test)]
+mod see;
+#[cfg(test)]
 mod told;

@@ -1,10 +1,11 @@
 //! Rows that are folded by any reducer.
-ghost use Rattle.std.specs.Prelude.{◌≡◌, ◌≤◌, true, IfOk, OnOk, length};
+ghost use Rattle.std.specs.Prelude.{◌≡◌, ◌<◌, ◌≤◌, true, IfOk, OnOk, length};
 ghost use Rattle.std.specs.List.{AllByRecursion};
 ghost use Rattle.xf_base.specs.Schema.{IsRowOf};
 ghost use Rattle.xf_base.specs.declared.limits.TheConstants.Limits.{ROWS};
 ghost use Rattle.xf_model.specs.Group.{fold_of};
 
+use crate::see::see;
 use std::alloc::Global;
 use std::process::Abort;
 use std::sync::ledger::Ledger;
@@ -63,17 +64,78 @@ fn folded<R: Reducer, L: Ledger>(
     Ok(value)
 }
 
-/// The numbers in all fields of a value.
-pub(crate) fn fields_of<R: Reducer>(
-    alloc: Global,
-    reducer: &R,
-    value: &R::Value,
-) -> Result<Vec<i128>, OutOfMemory> {
-    let mut fields = Vec::new(alloc);
+/// Compares the numbers in all fields of a value with those that a table has.
+pub(crate) fn see_ranks<R: Reducer>(rt: &impl Abort, reducer: &R, value: &R::Value, want: &[i128]) {
+    see(
+        rt,
+        "as many fields",
+        usize::from(reducer.fields()) == want.len(),
+    );
     for field in 0..reducer.fields() {
-        fields.push(reducer.rank(value, field))?;
+        let rank = reducer.rank(value, field);
+        see(rt, "a field", want.get(usize::from(field)) == Some(&rank));
     }
-    Ok(fields)
+}
+
+/// The value of rows to which one more came and went.
+fn taken_back<R: Reducer, L: Ledger>(
+    rt: &impl Abort,
+    alloc: Global,
+    schema: &Schema,
+    reducer: &R,
+    before: &[Row],
+    last: &Row,
+    steps: &mut Steps<L>,
+) -> Result<R::Value, OutOfMemory>
+    requires fit { R.fits_to reducer.now schema.now ≡ true }
+    requires few { length before.now < ROWS }
+{
+    let mut value = folded(rt, alloc, schema, reducer, before, steps)?;
+    assert!(rt; schema.misfit(last).is_none());
+    reducer.prepare(&mut value, last)?;
+    reducer.add(&mut value, last, steps);
+    reducer.remove(&mut value, last, steps);
+    Ok(value)
+}
+
+/// Sees that a row which came and went leaves the fields of those before it.
+fn see_taken_back<R: Reducer, L: Ledger>(
+    rt: &impl Abort,
+    alloc: Global,
+    schema: &Schema,
+    reducer: &R,
+    before: &[Row],
+    last: &Row,
+    steps: &mut Steps<L>,
+) -> Result<(), OutOfMemory>
+    requires fit { R.fits_to reducer.now schema.now ≡ true }
+    requires few { length before.now < ROWS }
+{
+    let fewer = folded(rt, alloc, schema, reducer, before, steps)?;
+    let value = taken_back(rt, alloc, schema, reducer, before, last, steps)?;
+    for field in 0..reducer.fields() {
+        let is_same = reducer.rank(&value, field) == reducer.rank(&fewer, field);
+        see(rt, "taken back", is_same);
+    }
+    Ok(())
+}
+
+/// Compares the fields of rows with those that a table has.
+fn see_folded<R: Reducer, L: Ledger>(
+    rt: &impl Abort,
+    alloc: Global,
+    schema: &Schema,
+    reducer: &R,
+    rows: &[Row],
+    want: &[i128],
+    steps: &mut Steps<L>,
+) -> Result<(), OutOfMemory>
+    requires fit { R.fits_to reducer.now schema.now ≡ true }
+    requires few { length rows.now ≤ ROWS }
+{
+    let value = folded(rt, alloc, schema, reducer, rows, steps)?;
+    see_ranks(rt, reducer, &value, want);
+    Ok(())
 }
 
 /// Compares the fields of rows with those that a table has. Without the last row they are those of the rows before it.
@@ -85,24 +147,12 @@ pub(crate) fn see_fields<R: Reducer, L: Ledger>(
     numbers: &[(i64, i64)],
     want: &[i128],
     steps: &mut Steps<L>,
-) -> Result<(), Fail> {
+) -> Result<(), OutOfMemory> {
     let rows = rows_of(alloc, numbers)?;
     assert!(rt; reducer.fits(schema) && rows.len() as u64 <= Limits::ROWS);
-    let Some((last, before)) = rows.as_slice().split_last() else {
-        let value = folded(rt, alloc, schema, reducer, rows.as_slice(), steps)?;
-        let fields = fields_of(alloc, reducer, &value)?;
-        assert_eq!(rt; fields.as_slice(), want);
-        return Ok(());
-    };
-    let mut value = folded(rt, alloc, schema, reducer, before, steps)?;
-    let fewer = fields_of(alloc, reducer, &value)?;
-    assert!(rt; schema.misfit(last).is_none());
-    reducer.prepare(&mut value, last)?;
-    reducer.add(&mut value, last, steps);
-    let fields = fields_of(alloc, reducer, &value)?;
-    assert_eq!(rt; fields.as_slice(), want);
-    reducer.remove(&mut value, last, steps);
-    let fields = fields_of(alloc, reducer, &value)?;
-    assert_eq!(rt; fields.as_slice(), fewer.as_slice());
-    Ok(())
+    see_folded(rt, alloc, schema, reducer, rows.as_slice(), want, steps)?;
+    match rows.as_slice().split_last() {
+        Some((last, before)) => see_taken_back(rt, alloc, schema, reducer, before, last, steps),
+        None => Ok(()),
+    }
 }

@@ -6,8 +6,9 @@ ghost use Rattle.xf_base.specs.Key.{key_cmp};
 ghost use Rattle.xf_base.specs.Schema.{IsRowOf};
 ghost use Rattle.xf_group_cases.specs.Turned.{MayTurn};
 
-use crate::folds::{a_schema, row_of, rows_of};
+use crate::folds::{a_schema, rows_of};
 use crate::own::Evens;
+use crate::see::see;
 use std::alloc::Global;
 use std::marker::Brand;
 use std::process::Abort;
@@ -114,6 +115,35 @@ fn turn<L: Ledger>(
     group.change(place, row, on, steps);
 }
 
+/// Sees the count of a key, at a position of a group and by the key itself.
+fn see_entry<L: Ledger>(
+    rt: &impl Abort,
+    group: &Group<Evens>,
+    position: usize,
+    key: &Key,
+    count: u64,
+    steps: &mut Steps<L>,
+) {
+    assert!(rt; position < group.size());
+    let entry = group.at(position, steps);
+    see(rt, "a key", *entry.key == *key);
+    let rank = group.reducer().rank(entry.value, 0);
+    see(rt, "a count", rank == i128::from(count));
+    see(rt, "a value", group.value(key, steps) == Some(&count));
+}
+
+/// Sees the first places of a group by its counts.
+fn see_order<L: Ledger>(
+    rt: &impl Abort,
+    group: &Group<Evens>,
+    order: &[usize],
+    steps: &mut Steps<L>,
+) -> Result<(), Fail> {
+    let top = group.top(order.len(), GroupOrder::Natural.field(), steps)?;
+    see(rt, "an order", top.as_slice() == order);
+    Ok(())
+}
+
 /// Compares the keys, the counts and the order of a group with those that a table has.
 fn see_group<L: Ledger>(
     rt: &impl Abort,
@@ -123,18 +153,12 @@ fn see_group<L: Ledger>(
     order: &[usize],
     steps: &mut Steps<L>,
 ) -> Result<(), Fail> {
-    assert_eq!(rt; group.size(), told.len());
-    for position in 0..group.size() {
-        let (text, count) = told[position];
+    see(rt, "as many keys", group.size() == told.len());
+    for (position, (text, count)) in told.iter().enumerate() {
         let key = Key::Text(Text::of(alloc, text)?);
-        let entry = group.at(position, steps);
-        assert!(rt; *entry.key == key);
-        assert_eq!(rt; group.reducer().rank(entry.value, 0), i128::from(count));
-        assert_eq!(rt; group.value(&key, steps), Some(&count));
+        see_entry(rt, group, position, &key, *count, steps);
     }
-    let top = group.top(told.len(), GroupOrder::Natural.field(), steps)?;
-    assert_eq!(rt; top.as_slice(), order);
-    Ok(())
+    see_order(rt, group, order, steps)
 }
 
 /// A place, whether its row is added or taken back, and then the even rows of each key and the order.
@@ -178,7 +202,93 @@ static TURNS: [Seen; 5] = [
     },
 ];
 
-/// Rows of two carriers that come and go; an emptied group has neither's rows; in the end one carrier has no place any more.
+/// A turn of the row of a place, and what the group is then.
+fn see_turn<L: Ledger>(
+    rt: &impl Abort,
+    alloc: Global,
+    schema: &Schema,
+    rows: &RowList,
+    group: &mut Group<Evens>,
+    seen: &Seen,
+    steps: &mut Steps<L>,
+) -> Result<(), Fail>
+    requires each { length group.old.places ≡ length rows.now }
+    ensures each { OnOk result (group.new.places ≡ group.old.places) }
+{
+    let row = rows.at(seen.place).expect(rt, "no row");
+    ready(rt, schema, group, seen.place, row)?;
+    let even = rows.at(1).expect(rt, "no row");
+    turn(rt, schema, group, even, seen.place, row, seen.on, steps);
+    see_group(rt, alloc, group, seen.counts, seen.order, steps)
+}
+
+/// Rows of two carriers that come and go.
+fn see_each<L: Ledger>(
+    rt: &impl Abort,
+    alloc: Global,
+    schema: &Schema,
+    rows: &RowList,
+    group: &mut Group<Evens>,
+    steps: &mut Steps<L>,
+) -> Result<(), Fail>
+    requires each { length group.old.places ≡ length rows.now }
+    ensures each { OnOk result (group.new.places ≡ group.old.places) }
+{
+    for seen in &TURNS {
+        see_turn(rt, alloc, schema, rows, group, seen, steps)?;
+    }
+    Ok(())
+}
+
+/// An emptied group has neither's rows.
+fn see_emptied<L: Ledger>(
+    rt: &impl Abort,
+    alloc: Global,
+    group: &Group<Evens>,
+    steps: &mut Steps<L>,
+) -> Result<(), Fail> {
+    let emptied = group.emptied()?;
+    see_group(rt, alloc, &emptied, &[("AA", 0), ("UA", 0)], &[0, 1], steps)
+}
+
+/// In the end one carrier has no place any more.
+fn see_retired<L: Ledger>(
+    rt: &impl Abort,
+    alloc: Global,
+    group: &Group<Evens>,
+    steps: &mut Steps<L>,
+) -> Result<(), Fail> {
+    let unused = Key::Text(Text::of(alloc, "UA")?);
+    see(rt, "unused", group.value(&unused, steps).is_none());
+    see_group(rt, alloc, group, &[("AA", 1)], &[0], steps)
+}
+
+/// The second of three rows is gone.
+fn retire(rt: &impl Abort, alloc: Global, group: &mut Group<Evens>) -> Result<(), OutOfMemory>
+    requires three { length group.old.places ≡ 3 }
+{
+    let gone = Gone::of(alloc, vec![in alloc; false, true, false]?)?;
+    assert!(rt; gone.len() == 3);
+    group.retire(&gone);
+    Ok(())
+}
+
+static NUMBERS: [(i64, i64); 3] = [(7, 0), (2, 0), (4, 0)];
+
+/// A group of two carriers with a place for each of three rows.
+fn carriers<L: Ledger>(
+    rt: &impl Abort,
+    alloc: Global,
+    schema: &Schema,
+    rows: &RowList,
+    steps: &mut Steps<L>,
+) -> Result<Group<Evens>, OutOfMemory>
+    ensures each { IfOk result (λ group. length group.places ≡ length rows.now) }
+{
+    let keys = keys_of(alloc, &["AA", "UA", "AA"])?;
+    admitted(rt, alloc, schema, rows, keys.as_slice(), steps)
+}
+
 fn see_turns<L: Ledger>(rt: &impl Abort, alloc: Global, blank: Blank) -> Result<(), Fail>
     requires name { blank.name ≡ L.name }
     requires parts { blank.parts ≡ L.parts }
@@ -186,33 +296,23 @@ fn see_turns<L: Ledger>(rt: &impl Abort, alloc: Global, blank: Blank) -> Result<
 {
     let mut steps = Steps::<L>::new(blank);
     let schema = a_schema(alloc)?;
-    let rows = rows_of(alloc, &[(7, 0), (2, 0), (4, 0)])?;
-    let keys = keys_of(alloc, &["AA", "UA", "AA"])?;
-    let mut group = admitted(rt, alloc, &schema, &rows, keys.as_slice(), &mut steps)?;
-    let even = row_of(alloc, 2, 0)?;
-    for seen in &TURNS {
-        let row = rows.at(seen.place).expect(rt, "no row");
-        ready(rt, &schema, &mut group, seen.place, row)?;
-        turn(
-            rt, &schema, &mut group, &even, seen.place, row, seen.on, &mut steps,
-        );
-        see_group(rt, alloc, &group, seen.counts, seen.order, &mut steps)?;
-    }
-    let emptied = group.emptied()?;
-    see_group(
-        rt,
-        alloc,
-        &emptied,
-        &[("AA", 0), ("UA", 0)],
-        &[0, 1],
-        &mut steps,
-    )?;
-    let gone = Gone::of(alloc, vec![in alloc; false, true, false]?)?;
-    assert_eq!(rt; gone.len(), rows.len());
-    group.retire(&gone);
-    let unused = Key::Text(Text::of(alloc, "UA")?);
-    assert!(rt; group.value(&unused, &mut steps).is_none());
-    see_group(rt, alloc, &group, &[("AA", 1)], &[0], &mut steps)
+    let rows = rows_of(alloc, &NUMBERS)?;
+    see_carriers(rt, alloc, &schema, &rows, &mut steps)
+}
+
+fn see_carriers<L: Ledger>(
+    rt: &impl Abort,
+    alloc: Global,
+    schema: &Schema,
+    rows: &RowList,
+    steps: &mut Steps<L>,
+) -> Result<(), Fail> {
+    assert!(rt; rows.len() == 3);
+    let mut group = carriers(rt, alloc, schema, rows, steps)?;
+    see_each(rt, alloc, schema, rows, &mut group, steps)?;
+    see_emptied(rt, alloc, &group, steps)?;
+    retire(rt, alloc, &mut group)?;
+    see_retired(rt, alloc, &group, steps)
 }
 
 #[test]

@@ -14,3 +14,5 @@ mod groups;
 mod own;
 #[cfg(test)]
 mod parts;
+#[cfg(test)]
+mod see;

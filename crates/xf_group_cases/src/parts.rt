@@ -2,6 +2,7 @@
 ghost use Rattle.std.specs.Prelude.{◌≡◌, ◌<◌};
 
 use crate::folds::{a_schema, see_fields};
+use crate::see::see;
 use std::alloc::Global;
 use std::marker::Brand;
 use std::process::Abort;
@@ -22,7 +23,14 @@ const BOTH: &[i128] = &[126, 4, 31, 3, -5, 7, 0];
 
 /// A reducer, the numbers of rows, the fields (of the spread, how many numbers differ, the least, the greatest and the
 /// median), and their decimals.
-static FIELDS: [(StockReducer, &[(i64, i64)], &[i128], &[u8]); 16] = [
+type Case = (
+    StockReducer,
+    &'static [(i64, i64)],
+    &'static [i128],
+    &'static [u8],
+);
+
+static FIELDS: [Case; 16] = [
     (StockReducer::One(Simple::Count), ALL, &[4], &[0]),
     (StockReducer::One(Simple::Sum(0)), ALL, &[9], &[0]),
     (StockReducer::One(Simple::Sum(1)), ALL, &[126], &[2]),
@@ -106,19 +114,43 @@ static FIELDS: [(StockReducer, &[(i64, i64)], &[i128], &[u8]); 16] = [
     ),
 ];
 
-/// The decimals of the fields of a reducer.
-fn decimals_of(
+/// Compares the decimals of the fields of a reducer with those that a table has.
+fn see_decimals(rt: &impl Abort, schema: &Schema, reducer: &StockReducer, want: &[u8]) {
+    assert!(rt; reducer.fits(schema));
+    for field in 0..reducer.fields() {
+        let decimals = reducer.decimals(schema, field);
+        see(
+            rt,
+            "decimals",
+            want.get(usize::from(field)) == Some(&decimals),
+        );
+    }
+}
+
+fn see_case<L: Ledger>(
     rt: &impl Abort,
     alloc: Global,
     schema: &Schema,
-    reducer: &StockReducer,
-) -> Result<Vec<u8>, OutOfMemory> {
-    assert!(rt; reducer.fits(schema));
-    let mut decimals = Vec::new(alloc);
-    for field in 0..reducer.fields() {
-        decimals.push(reducer.decimals(schema, field))?;
-    }
-    Ok(decimals)
+    case: &Case,
+    steps: &mut Steps<L>,
+) -> Result<(), OutOfMemory> {
+    let copy = case.0.copy(alloc)?;
+    see(rt, "a copy", copy == case.0);
+    see_decimals(rt, schema, &copy, case.3);
+    see_fields(rt, alloc, schema, &copy, case.1, case.2, steps)
+}
+
+/// A part alone, and two parts.
+fn see_parts<L: Ledger>(
+    rt: &impl Abort,
+    alloc: Global,
+    schema: &Schema,
+    steps: &mut Steps<L>,
+) -> Result<(), OutOfMemory> {
+    let alone = Alone(SumSquares(0)).copy(alloc)?;
+    see_fields(rt, alloc, schema, &alone, ALL, &[123, 9, 4], steps)?;
+    let both = Both(SumCount(1), Spread(0)).copy(alloc)?;
+    see_fields(rt, alloc, schema, &both, ALL, BOTH, steps)
 }
 
 fn see_stock<L: Ledger>(rt: &impl Abort, alloc: Global, blank: Blank) -> Result<(), Fail>
@@ -128,17 +160,10 @@ fn see_stock<L: Ledger>(rt: &impl Abort, alloc: Global, blank: Blank) -> Result<
 {
     let mut steps = Steps::<L>::new(blank);
     let schema = a_schema(alloc)?;
-    for (reducer, numbers, fields, decimals) in &FIELDS {
-        let copy = reducer.copy(alloc)?;
-        assert!(rt; copy == *reducer);
-        see_fields(rt, alloc, &schema, &copy, numbers, fields, &mut steps)?;
-        let found = decimals_of(rt, alloc, &schema, reducer)?;
-        assert_eq!(rt; found.as_slice(), *decimals);
+    for case in &FIELDS {
+        see_case(rt, alloc, &schema, case, &mut steps)?;
     }
-    let alone = Alone(SumSquares(0)).copy(alloc)?;
-    see_fields(rt, alloc, &schema, &alone, ALL, &[123, 9, 4], &mut steps)?;
-    let both = Both(SumCount(1), Spread(0)).copy(alloc)?;
-    see_fields(rt, alloc, &schema, &both, ALL, BOTH, &mut steps)
+    Ok(see_parts(rt, alloc, &schema, &mut steps)?)
 }
 
 #[test]

@@ -1,4 +1,8 @@
 //! The stock of accessors on one record, and on days.
+ghost use Rattle.std.specs.Prelude.{IfOk};
+ghost use Rattle.xf_base.specs.Schema.{IsColumn, IsSoundKind};
+
+use crate::see::see;
 use std::alloc::Global;
 use std::test::Fail;
 use xf_access::{Accessor, StockAccessor};
@@ -17,36 +21,64 @@ const TEXT: KeyForm = KeyForm::One(AtomForm::Text);
 
 const TEXT_AND_CENTS: KeyForm = KeyForm::Pair(AtomForm::Text, AtomForm::Fixed(2));
 
+fn kind_at(place: usize) -> ColumnKind
+    ensures { IsSoundKind result }
+{
+    match place {
+        0 => ColumnKind::Text,
+        1 => ColumnKind::Int,
+        2 => ColumnKind::Fixed(2),
+        3 => ColumnKind::Date,
+        _ => ColumnKind::Tags(b';'),
+    }
+}
+
+/// A column of the kind of a place.
+fn column_at(alloc: Global, place: usize) -> Result<Column, OutOfMemory>
+    ensures { IfOk result IsColumn }
+{
+    Ok(Column {
+        name: Text::of(alloc, "c")?,
+        kind: kind_at(place),
+        blank: None,
+    })
+}
+
 /// Columns of each kind.
-fn a_schema(alloc: Global) -> Result<Schema, Fail> {
+fn a_schema(alloc: Global) -> Result<Schema, OutOfMemory> {
     let mut schema = Schema::new(alloc);
-    for kind in [
-        ColumnKind::Text,
-        ColumnKind::Int,
-        ColumnKind::Fixed(2),
-        ColumnKind::Date,
-        ColumnKind::Tags(b';'),
-    ] {
-        schema.push(Column {
-            name: Text::of(alloc, "c")?,
-            kind,
-            blank: None,
-        })?;
+    for place in 0..5_usize {
+        schema.push(column_at(alloc, place)?)?;
     }
     Ok(schema)
 }
 
-/// A name, three seats, a price of 1.50, a day, and two tags.
-fn a_row(alloc: Global, day: i64) -> Result<Row, OutOfMemory> {
+static TAGS: [&str; 2] = ["new", "old"];
+
+fn tags(alloc: Global) -> Result<TextList, OutOfMemory> {
     let mut tags = TextList::new(alloc);
-    tags.push(Text::of(alloc, "new")?)?;
-    tags.push(Text::of(alloc, "old")?)?;
+    for tag in &TAGS {
+        tags.push(Text::of(alloc, tag)?)?;
+    }
+    Ok(tags)
+}
+
+/// Of a name, three seats, a price of 1.50, a day, and two tags the one of a place.
+fn cell_at(alloc: Global, place: usize, day: i64) -> Result<Cell, OutOfMemory> {
+    Ok(match place {
+        0 => Cell::Text(Text::of(alloc, "\u{fc}")?),
+        1 => Cell::Num(3),
+        2 => Cell::Num(150),
+        3 => Cell::Num(day),
+        _ => Cell::Tags(tags(alloc)?),
+    })
+}
+
+fn a_row(alloc: Global, day: i64) -> Result<Row, OutOfMemory> {
     let mut row = Row::new(alloc);
-    row.push(Cell::Text(Text::of(alloc, "\u{fc}")?))?;
-    row.push(Cell::Num(3))?;
-    row.push(Cell::Num(150))?;
-    row.push(Cell::Num(day))?;
-    row.push(Cell::Tags(tags))?;
+    for place in 0..5_usize {
+        row.push(cell_at(alloc, place, day)?)?;
+    }
     Ok(row)
 }
 
@@ -65,9 +97,11 @@ fn shown(alloc: Global, accessor: &StockAccessor, row: &Row) -> Result<Vec<u8>, 
 /// 2024-02-29.
 const LEAP: i64 = 19_782;
 
+type Case = (StockAccessor, i64, bool, &'static str);
+
 /// An accessor, the day of the record, whether it fits the columns, and what it gives for the record; a number of no year has
 /// no month.
-static ACCESSORS: [(StockAccessor, i64, bool, &str); 32] = [
+static ACCESSORS: [Case; 32] = [
     (StockAccessor::Column(0, TEXT), LEAP, true, "\u{fc}"),
     (StockAccessor::Column(1, WHOLE), LEAP, true, "3"),
     (StockAccessor::Column(2, CENTS), LEAP, true, "1.50"),
@@ -117,20 +151,34 @@ static ACCESSORS: [(StockAccessor, i64, bool, &str); 32] = [
     (StockAccessor::Month(3), 2_932_897, true, ""),
 ];
 
+/// Whether a row's keys are those that a case wants.
+fn is_shown(alloc: Global, case: &Case, row: &Row) -> Result<bool, Fail> {
+    let keys = shown(alloc, &case.0, row)?;
+    Ok(keys.as_slice() == case.3.as_bytes())
+}
+
+/// An accessor, whether it may give many keys, and their kind.
+static KINDS: [(StockAccessor, bool, KeyKind); 3] = [
+    (StockAccessor::Tags(4), true, KeyKind::Text),
+    (StockAccessor::Month(3), false, KeyKind::Num),
+    (
+        StockAccessor::PairOf(0, 2, TEXT_AND_CENTS),
+        false,
+        KeyKind::Pair(AtomKind::Text, AtomKind::Num),
+    ),
+];
+
 #[test]
 fn fits_and_gives_keys(rt: HostRuntime) -> Result<(), Fail> {
     let schema = a_schema(rt.alloc())?;
-    for (accessor, day, fits, want) in &ACCESSORS {
-        assert_eq!(rt; accessor.fits(&schema), *fits, "at {want}");
-        let keys = shown(rt.alloc(), accessor, &a_row(rt.alloc(), *day)?)?;
-        assert_eq!(rt; keys.as_slice(), want.as_bytes(), "at {want}");
+    for case in &ACCESSORS {
+        see(&rt, case.3, case.0.fits(&schema) == case.2);
+        let row = a_row(rt.alloc(), case.1)?;
+        see(&rt, case.3, is_shown(rt.alloc(), case, &row)?);
     }
-    assert!(rt; StockAccessor::Tags(4).is_array());
-    assert!(rt; !StockAccessor::Month(3).is_array());
-    assert_eq!(rt; StockAccessor::Tags(4).kind(), KeyKind::Text);
-    assert_eq!(rt;
-        StockAccessor::PairOf(0, 2, TEXT_AND_CENTS).kind(),
-        KeyKind::Pair(AtomKind::Text, AtomKind::Num)
-    );
+    for (accessor, is_array, kind) in &KINDS {
+        see(&rt, "an array", accessor.is_array() == *is_array);
+        see(&rt, "a kind", accessor.kind() == *kind);
+    }
     Ok(())
 }

@@ -1,7 +1,10 @@
 //! The stock of roundings on numbers, texts and a pair.
 use crate::told::{Told, key_of};
+use std::alloc::Global;
+use std::process::Abort;
 use std::test::Fail;
 use xf_access::{Rounding, StockRounding};
+use xf_base::{Key, OutOfMemory};
 
 /// A rounding, a key, and the rounded key. Day 19,782 is 2024-02-29, and day -1 is 1969-12-31.
 static KEYS: [(StockRounding, Told, Told); 25] = [
@@ -88,11 +91,30 @@ static KEYS: [(StockRounding, Told, Told); 25] = [
     ),
 ];
 
+fn rounded(alloc: Global, rounding: &StockRounding, told: &Told) -> Result<Key, OutOfMemory> {
+    let key = key_of(alloc, told)?;
+    rounding.round(alloc, &key)
+}
+
+/// Whether a key rounds to another.
+fn is_rounded(
+    alloc: Global,
+    rounding: &StockRounding,
+    told: &Told,
+    want: &Told,
+) -> Result<bool, OutOfMemory> {
+    let key = rounded(alloc, rounding, told)?;
+    Ok(key == key_of(alloc, want)?)
+}
+
+fn see_place(rt: &impl Abort, place: usize, is_right: bool) {
+    assert!(rt; is_right, "at {place}");
+}
+
 #[test]
 fn rounds_keys(rt: HostRuntime) -> Result<(), Fail> {
     for (place, (rounding, told, want)) in KEYS.iter().enumerate() {
-        let rounded = rounding.round(rt.alloc(), &key_of(rt.alloc(), told)?)?;
-        assert!(rt; rounded == key_of(rt.alloc(), want)?, "at {place}");
+        see_place(&rt, place, is_rounded(rt.alloc(), rounding, told, want)?);
     }
     Ok(())
 }

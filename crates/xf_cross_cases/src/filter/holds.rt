@@ -1,17 +1,27 @@
 //! For which keys filters hold, and which kinds they do not fit.
 use crate::filter::{filter_of, item_of};
+use crate::see::see;
 use crate::told::{TEXT, TEXT_AND_CENTS, Told, WHOLE, key_of};
 use std::alloc::Global;
 use std::process::Abort;
 use std::test::Fail;
-use xf_base::{AtomKind, Key, KeyForm, KeyKind};
-use xf_filter::{Filter, Predicate, StockPredicate};
+use xf_base::{AtomKind, Key, KeyForm, KeyKind, OutOfMemory};
+use xf_filter::{Filter, Item, Predicate, StockPredicate};
 
 const PAIR: KeyKind = KeyKind::Pair(AtomKind::Text, AtomKind::Num);
 
 /// A form, the words of a filter, the kind of a dimension, the kind of the filter's first key that is of another, keys for
 /// which it holds, and keys for which it does not.
-static FILTERS: [(KeyForm, &str, KeyKind, Option<KeyKind>, &[Told], &[Told]); 30] = [
+type FilterCase = (
+    KeyForm,
+    &'static str,
+    KeyKind,
+    Option<KeyKind>,
+    &'static [Told],
+    &'static [Told],
+);
+
+static FILTERS: [FilterCase; 30] = [
     (
         WHOLE,
         "all",
@@ -220,25 +230,45 @@ fn see_keys(
     holds: bool,
 ) -> Result<(), Fail> {
     for told in keys {
-        assert_eq!(rt; filter.holds(&key_of(alloc, told)?), holds, "{line}");
+        let key = key_of(alloc, told)?;
+        see(rt, line, filter.holds(&key) == holds);
     }
     Ok(())
 }
 
+/// Sees what a case's filter is.
+fn see_filter(
+    rt: &impl Abort,
+    alloc: Global,
+    case: &FilterCase,
+    filter: &Filter<StockPredicate>,
+) -> Result<(), Fail> {
+    let (_form, line, kind, given, held, left_out) = case;
+    see(rt, line, filter.is_all() == (*line == "all"));
+    see(rt, line, filter.misfit(kind) == *given);
+    see_keys(rt, alloc, line, filter, held, true)?;
+    see_keys(rt, alloc, line, filter, left_out, false)
+}
+
+/// A copy of a case's filter.
+fn copied(alloc: Global, case: &FilterCase) -> Result<Filter<StockPredicate>, Fail> {
+    let filter = filter_of(alloc, &case.0, case.1)?;
+    Ok(filter.copy(alloc)?)
+}
+
 #[test]
 fn each_filter(rt: HostRuntime) -> Result<(), Fail> {
-    for (form, line, kind, given, held, left_out) in &FILTERS {
-        let filter = filter_of(rt.alloc(), form, line)?.copy(rt.alloc())?;
-        assert!(rt; filter.is_all() == (*line == "all"), "{line}");
-        assert!(rt; filter.misfit(kind) == *given, "{line}");
-        see_keys(&rt, rt.alloc(), line, &filter, held, true)?;
-        see_keys(&rt, rt.alloc(), line, &filter, left_out, false)?;
+    for case in &FILTERS {
+        let filter = copied(rt.alloc(), case)?;
+        see_filter(&rt, rt.alloc(), case, &filter)?;
     }
     Ok(())
 }
 
 /// The words of an item of whole numbers, a key that it names, one that it does not, and whether both its keys are numbers.
-static ITEMS: [(&str, i64, i64, bool); 5] = [
+type ItemCase = (&'static str, i64, i64, bool);
+
+static ITEMS: [ItemCase; 5] = [
     ("exact 7", 7, 8, true),
     ("range 0 7", 6, 7, true),
     ("range 0 7", 0, -1, true),
@@ -246,21 +276,43 @@ static ITEMS: [(&str, i64, i64, bool); 5] = [
     ("range -5 x", 9, -6, false),
 ];
 
+/// Whether an item names a number.
+fn names(item: &Item, number: i64) -> bool {
+    item.holds(&Key::Num(number))
+}
+
+/// Whether a remainder by this divisor is no number's.
+fn says_no(divisor: i64, number: i64) -> bool {
+    !StockPredicate::Modulo(divisor, 0).says(&Key::Num(number))
+}
+
+fn is_copied(alloc: Global, item: &Item) -> Result<bool, OutOfMemory> {
+    Ok(item.copy(alloc)? == *item)
+}
+
+/// Sees what a case's item is.
+fn see_item(rt: &impl Abort, case: &ItemCase, item: &Item) {
+    let (line, named, other, numbers) = case;
+    see(rt, line, names(item, *named) && !names(item, *other));
+    see(rt, line, item.misfit(&KeyKind::Num).is_none() == *numbers);
+}
+
+static DIVISORS: [i64; 3] = [0, -7, i64::MIN];
+
 /// No words give a divisor below 1, which says no to every key.
 #[test]
 fn each_item(rt: HostRuntime) -> Result<(), Fail> {
-    for divisor in [0, -7, i64::MIN] {
-        let none = StockPredicate::Modulo(divisor, 0);
-        assert!(rt; !none.says(&Key::Num(0)) && !none.says(&Key::Num(7)));
-    }
-    for (line, named, other, numbers) in &ITEMS {
-        let item = item_of(rt.alloc(), &WHOLE, line)?;
-        assert!(rt;
-            item.holds(&Key::Num(*named)) && !item.holds(&Key::Num(*other)),
-            "{line}"
+    for divisor in &DIVISORS {
+        see(
+            &rt,
+            "no divisor",
+            says_no(*divisor, 0) && says_no(*divisor, 7),
         );
-        assert!(rt; item.misfit(&KeyKind::Num).is_none() == *numbers, "{line}");
-        assert!(rt; item.copy(rt.alloc())? == item, "{line}");
+    }
+    for case in &ITEMS {
+        let item = item_of(rt.alloc(), &WHOLE, case.0)?;
+        see_item(&rt, case, &item);
+        see(&rt, case.0, is_copied(rt.alloc(), &item)?);
     }
     Ok(())
 }

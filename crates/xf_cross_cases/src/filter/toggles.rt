@@ -1,6 +1,8 @@
 //! Items that are toggled, from each state of the list.
 use crate::filter::{filter_of, item_of};
+use crate::see::see;
 use crate::told::WHOLE;
+use std::alloc::Global;
 use std::test::Fail;
 use xf_base::Key;
 use xf_filter::{Filter, Item, StockPredicate, toggled};
@@ -85,14 +87,30 @@ fn is_list(filter: &Filter<StockPredicate>, list: &[Listed]) -> bool {
     }
 }
 
+/// The filter after the item of a line is toggled.
+fn toggled_once(
+    alloc: Global,
+    filter: &Filter<StockPredicate>,
+    line: &str,
+) -> Result<Filter<StockPredicate>, Fail> {
+    let item = item_of(alloc, &WHOLE, line)?;
+    Ok(toggled(alloc, filter, item)?)
+}
+
+/// The filter of a line after items are toggled in turn.
+fn toggled_by(alloc: Global, line: &str, items: &[&str]) -> Result<Filter<StockPredicate>, Fail> {
+    let mut filter = filter_of(alloc, &WHOLE, line)?;
+    for item in items {
+        filter = toggled_once(alloc, &filter, item)?;
+    }
+    Ok(filter)
+}
+
 #[test]
 fn each_toggle(rt: HostRuntime) -> Result<(), Fail> {
     for (line, items, list) in &TOGGLES {
-        let mut filter = filter_of(rt.alloc(), &WHOLE, line)?;
-        for item in *items {
-            filter = toggled(rt.alloc(), &filter, item_of(rt.alloc(), &WHOLE, item)?)?;
-        }
-        assert!(rt; is_list(&filter, list), "{line}");
+        let filter = toggled_by(rt.alloc(), line, items)?;
+        see(&rt, line, is_list(&filter, list));
     }
     Ok(())
 }

@@ -1,5 +1,6 @@
 //! Words that are filters, and the first word at which no filter goes on so.
 use crate::filter::words_of;
+use crate::see::see;
 use std::alloc::Global;
 use std::process::Abort;
 use std::test::Fail;
@@ -289,10 +290,11 @@ fn told(
 ) -> Result<(), FilterSyntax> {
     assert!(rt; first >= 1 && first <= words.len() + 1);
     if is_item {
-        read_item(alloc, words, first).map(|_| ())
+        read_item(alloc, words, first)?;
     } else {
-        read_filter(alloc, words, first).map(|_| ())
+        read_filter(alloc, words, first)?;
     }
+    Ok(())
 }
 
 #[test]
@@ -300,7 +302,7 @@ fn each_line(rt: HostRuntime) -> Result<(), Fail> {
     for (is_item, line, first, want) in &LINES {
         let words = words_of(rt.alloc(), line)?;
         let found = told(&rt, rt.alloc(), *is_item, words.as_slice(), *first);
-        assert!(rt; found == *want, "{line}");
+        see(&rt, line, found == *want);
     }
     Ok(())
 }
@@ -338,24 +340,38 @@ static PRINTED: [(bool, &[&str], &str); 11] = [
     (true, &["toggle", "range", "a b", "c"], "range \"a b\" c"),
 ];
 
-/// How the item or the filter of words is printed.
-fn printed(rt: &impl Abort, alloc: Global, is_item: bool, words: &[Text]) -> Result<Vec<u8>, Fail> {
+/// How the item of the words behind the first is printed.
+fn item_printed(rt: &impl Abort, alloc: Global, words: &[Text]) -> Result<Vec<u8>, Fail> {
     assert!(rt; words.len() >= 1);
+    let item = read_item(alloc, words, 2)?;
     let mut out = Vec::new(alloc);
-    if is_item {
-        print_item(&mut out, &read_item(alloc, words, 2)?)?;
-    } else {
-        print_filter(&mut out, &read_filter(alloc, words, 1)?)?;
-    }
+    print_item(&mut out, &item)?;
     Ok(out)
+}
+
+/// How the filter of words is printed.
+fn filter_printed(alloc: Global, words: &[Text]) -> Result<Vec<u8>, Fail> {
+    let filter = read_filter(alloc, words, 1)?;
+    let mut out = Vec::new(alloc);
+    print_filter(&mut out, &filter)?;
+    Ok(out)
+}
+
+/// How the item or the filter of words is printed.
+fn printed(rt: &impl Abort, alloc: Global, is_item: bool, words: &[&str]) -> Result<Vec<u8>, Fail> {
+    let words = texts(alloc, words)?;
+    if is_item {
+        item_printed(rt, alloc, words.as_slice())
+    } else {
+        filter_printed(alloc, words.as_slice())
+    }
 }
 
 #[test]
 fn each_printed(rt: HostRuntime) -> Result<(), Fail> {
     for (is_item, words, text) in &PRINTED {
-        let words = texts(rt.alloc(), words)?;
-        let out = printed(&rt, rt.alloc(), *is_item, words.as_slice())?;
-        assert!(rt; out.as_slice() == text.as_bytes(), "{text}");
+        let out = printed(&rt, rt.alloc(), *is_item, words)?;
+        see(&rt, text, out.as_slice() == text.as_bytes());
     }
     Ok(())
 }

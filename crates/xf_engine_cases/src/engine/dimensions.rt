@@ -3,30 +3,32 @@
 ghost use Rattle.std.specs.Prelude.{◌≡◌, ◌<◌};
 
 use crate::engine::{
-    COUNT, RECORDS, StockCross, add_group, numbers_of, order_by, rows_of, see_entries, tops_of,
+    RECORDS, StockCross, add_counted, add_rows, empty_cross, order_by, see_numbers, see_top,
 };
-use crate::named::a_schema;
+use crate::see::see;
 use crate::told::{TEXT, TEXT_AND_CENTS, Told, WHOLE};
 use std::alloc::Global;
 use std::marker::Brand;
 use std::process::Abort;
 use std::sync::ledger::{Blank, Ledger};
 use std::test::Fail;
-use xf_access::{Accessor, StockAccessor, StockRounding};
-use xf_base::{Limits, Steps};
-use xf_engine::Cross;
+use xf_access::{StockAccessor, StockRounding};
+use xf_base::Steps;
+use xf_engine::DimensionId;
 use xf_group::GroupOrder;
 
 /// A dimension, how its group rounds, the group's entries, the one of most records, the records from the least key on, and
 /// of those from the greatest key on the second and the third.
-static DIMENSIONS: [(
+type Case = (
     StockAccessor,
     StockRounding,
-    &[(Told, i128)],
-    &[(Told, i128)],
-    &[usize],
-    &[usize],
-); 6] = [
+    &'static [(Told, i128)],
+    &'static [(Told, i128)],
+    &'static [usize],
+    &'static [usize],
+);
+
+static DIMENSIONS: [Case; 6] = [
     (
         StockAccessor::Column(1, WHOLE),
         StockRounding::Floor(10),
@@ -86,34 +88,66 @@ static DIMENSIONS: [(
     ),
 ];
 
+/// Sees which records have the least and the greatest keys.
+fn see_ends<L: Ledger>(
+    rt: &impl Abort,
+    cross: &StockCross,
+    dimension: DimensionId,
+    case: &Case,
+    steps: &mut Steps<L>,
+) -> Result<(), Fail> {
+    let least = cross.bottom(dimension, 9, 0, steps)?;
+    see(rt, "the least keys", least.as_slice() == case.4);
+    let greatest = cross.top(dimension, 2, 1, steps)?;
+    see(rt, "the greatest keys", greatest.as_slice() == case.5);
+    Ok(())
+}
+
+/// Sees what a case's dimension gives.
+fn see_dimension<L: Ledger>(
+    rt: &impl Abort,
+    alloc: Global,
+    cross: &mut StockCross,
+    case: &Case,
+    steps: &mut Steps<L>,
+) -> Result<(), Fail> {
+    let (dimension, group) = add_counted(rt, cross, case.0, case.1, steps)?;
+    see(
+        rt,
+        "its dimension",
+        cross.group_dimension(group) == Ok(dimension),
+    );
+    see_numbers(rt, alloc, cross, group, case.2, steps)?;
+    order_by(rt, cross, group, GroupOrder::By(0))?;
+    see_top(rt, alloc, cross, group, case.3, steps)?;
+    see_ends(rt, cross, dimension, case, steps)
+}
+
+fn see_each<L: Ledger>(
+    rt: &impl Abort,
+    alloc: Global,
+    cross: &mut StockCross,
+    steps: &mut Steps<L>,
+) -> Result<(), Fail> {
+    add_rows(alloc, cross, &RECORDS, steps)?;
+    see(rt, "four records", cross.is_sound() && cross.size() == 4);
+    for case in &DIMENSIONS {
+        see_dimension(rt, alloc, cross, case, steps)?;
+    }
+    assert!(rt; 0 < cross.size());
+    see(rt, "five cells", cross.row(0, steps).len() == 5);
+    see(rt, "no filter", cross.passing_count(steps) == 4);
+    Ok(())
+}
+
 fn see_dimensions<L: Ledger>(rt: &impl Abort, alloc: Global, blank: Blank) -> Result<(), Fail>
     requires name { blank.name ≡ L.name }
     requires parts { blank.parts ≡ L.parts }
     requires some { 0 < blank.parts }
 {
     let mut steps = Steps::<L>::new(blank);
-    let mut cross: StockCross = Cross::new(alloc, a_schema(alloc)?, Limits::standard());
-    assert!(rt; cross.add_records(rows_of(alloc, &RECORDS)?, &mut steps) == Ok(()));
-    assert!(rt; cross.is_sound() && cross.size() == 4);
-    for (accessor, rounding, entries, most, least, greatest) in &DIMENSIONS {
-        assert!(rt; accessor.fits(cross.schema()));
-        let dimension = cross.add_dimension(*accessor, &mut steps)?;
-        let group = add_group(rt, &mut cross, dimension, *rounding, COUNT, &mut steps)?;
-        assert!(rt; cross.group_dimension(group) == Ok(dimension));
-        let found = numbers_of(rt, &cross, group, 0, &mut steps)?;
-        see_entries(rt, alloc, found.as_slice(), entries)?;
-        order_by(rt, &mut cross, group, GroupOrder::By(0))?;
-        let found = tops_of(rt, &cross, group, 1, 0, &mut steps)?;
-        see_entries(rt, alloc, found.as_slice(), most)?;
-        let found = cross.bottom(dimension, 9, 0, &mut steps)?;
-        assert_eq!(rt; found.as_slice(), *least);
-        let found = cross.top(dimension, 2, 1, &mut steps)?;
-        assert_eq!(rt; found.as_slice(), *greatest);
-    }
-    assert!(rt; 0 < cross.size());
-    assert_eq!(rt; cross.row(0, &mut steps).len(), 5);
-    assert_eq!(rt; cross.passing_count(&mut steps), 4);
-    Ok(())
+    let mut cross = empty_cross(alloc)?;
+    see_each(rt, alloc, &mut cross, &mut steps)
 }
 
 /// A record of several tags that round to one is counted once, and of equal keys the later record is the greater.

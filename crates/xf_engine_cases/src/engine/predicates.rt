@@ -1,17 +1,18 @@
 //! Filters of any predicate: one of a test's own, dimensions that are ignored, and all filters cleared.
 ghost use Rattle.std.specs.Prelude.{◌≡◌, ◌<◌};
 
-use crate::engine::{COUNT, FLIGHTS, add_group, flights, rows_of};
-use crate::named::{a_schema, filter_of};
+use crate::engine::{CrossBy, FLIGHTS, StockCross, add_counted, add_rows, empty_cross, flights};
+use crate::named::filter_of;
+use crate::see::see;
 use crate::told::{TEXT, WHOLE};
 use std::alloc::Global;
 use std::marker::Brand;
 use std::process::Abort;
 use std::sync::ledger::{Blank, Ledger};
 use std::test::Fail;
-use xf_access::{Accessor, StockAccessor, StockRounding};
-use xf_base::{Key, KeyKind, Limits, OutOfMemory, Steps};
-use xf_engine::{Cross, DimensionId, ListRefusal, NoDimension};
+use xf_access::{StockAccessor, StockRounding};
+use xf_base::{Key, KeyForm, KeyKind, OutOfMemory, Steps};
+use xf_engine::{DimensionId, ListRefusal, NoDimension};
 use xf_filter::{Filter, Predicate};
 
 const DELAY: DimensionId = DimensionId(0);
@@ -46,6 +47,64 @@ impl Predicate for Even {
     }
 }
 
+/// Sets a filter, and sees how many records it moves and how many pass it.
+fn see_moved<P: Predicate, L: Ledger>(
+    rt: &impl Abort,
+    cross: &mut CrossBy<P>,
+    filter: Filter<P>,
+    moved: u64,
+    passing: u64,
+    steps: &mut Steps<L>,
+) {
+    let is_moved = cross.set_filter(DELAY, filter, steps) == Ok(moved);
+    see(
+        rt,
+        "moved",
+        is_moved && cross.passing_count(steps) == passing,
+    );
+}
+
+/// Removes the records that a filter lets pass, and sees how many they are.
+fn see_removed<P: Predicate, L: Ledger>(
+    rt: &impl Abort,
+    cross: &mut CrossBy<P>,
+    filter: &Filter<P>,
+    passing: u64,
+    steps: &mut Steps<L>,
+) {
+    let is_removed = cross.remove_where(DELAY, filter, steps) == Ok(passing);
+    see(rt, "removed", is_removed && cross.passing_count(steps) == 0);
+}
+
+/// Flights with the dimension 0 of their delays.
+fn delays<P: Predicate, L: Ledger>(
+    rt: &impl Abort,
+    alloc: Global,
+    steps: &mut Steps<L>,
+) -> Result<CrossBy<P>, Fail> {
+    let mut cross = empty_cross(alloc)?;
+    let accessor = StockAccessor::Column(1, WHOLE);
+    add_counted(rt, &mut cross, accessor, StockRounding::Same, steps)?;
+    add_rows(alloc, &mut cross, &FLIGHTS, steps)?;
+    Ok(cross)
+}
+
+/// Sets a copy of a filter and removes what passes it.
+fn see_filter<P: Predicate, L: Ledger>(
+    rt: &impl Abort,
+    alloc: Global,
+    cross: &mut CrossBy<P>,
+    filter: &Filter<P>,
+    moved: u64,
+    passing: u64,
+    steps: &mut Steps<L>,
+) -> Result<(), Fail> {
+    let copy = filter.copy(alloc)?;
+    see_moved(rt, cross, copy, moved, passing, steps);
+    see_removed(rt, cross, filter, passing, steps);
+    Ok(())
+}
+
 /// Sets a predicate on the delays of flights and removes what passes it.
 fn see_predicate<P: Predicate, L: Ledger>(
     rt: &impl Abort,
@@ -60,26 +119,9 @@ fn see_predicate<P: Predicate, L: Ledger>(
     requires some { 0 < blank.parts }
 {
     let mut steps = Steps::<L>::new(blank);
-    let mut cross = Cross::new(alloc, a_schema(alloc)?, Limits::standard());
-    let accessor = StockAccessor::Column(1, WHOLE);
-    assert!(rt; accessor.fits(cross.schema()));
-    let delay = cross.add_dimension(accessor, &mut steps)?;
-    add_group(
-        rt,
-        &mut cross,
-        delay,
-        StockRounding::Same,
-        COUNT,
-        &mut steps,
-    )?;
-    cross.add_records(rows_of(alloc, &FLIGHTS)?, &mut steps)?;
     let filter = Filter::Func(predicate);
-    let copy = filter.copy(alloc)?;
-    assert!(rt; cross.set_filter(delay, filter, &mut steps) == Ok(moved));
-    assert_eq!(rt; cross.passing_count(&mut steps), passing);
-    let removed = cross.remove_where(delay, &copy, &mut steps)?;
-    assert!(rt; removed == passing && cross.passing_count(&mut steps) == 0);
-    Ok(())
+    let mut cross = delays(rt, alloc, &mut steps)?;
+    see_filter(rt, alloc, &mut cross, &filter, moved, passing, &mut steps)
 }
 
 #[test]
@@ -106,6 +148,57 @@ fn is_told(found: &Result<Vec<usize>, ListRefusal>, told: &Result<&[usize], u32>
     }
 }
 
+/// Sets the filter that the words of a line name.
+fn set_filter<L: Ledger>(
+    alloc: Global,
+    cross: &mut StockCross,
+    dimension: DimensionId,
+    form: &KeyForm,
+    line: &str,
+    steps: &mut Steps<L>,
+) -> Result<u64, Fail> {
+    let filter = filter_of(alloc, form, line)?;
+    Ok(cross.set_filter(dimension, filter, steps)?)
+}
+
+/// Clears both filters, and sees that they are none.
+fn see_cleared<L: Ledger>(rt: &impl Abort, cross: &mut StockCross, steps: &mut Steps<L>) {
+    let is_cleared = cross.clear_all(steps) == Ok(3);
+    see(rt, "cleared", is_cleared && cross.passing_count(steps) == 4);
+    let is_cleared = cross.clear_all(steps) == Ok(0);
+    see(
+        rt,
+        "cleared again",
+        is_cleared && cross.events().filtered == 4,
+    );
+    see(
+        rt,
+        "no filter",
+        matches!(cross.filter(DELAY), Ok(Filter::All)),
+    );
+    let gone = cross.filter(DimensionId(2));
+    see(
+        rt,
+        "no dimension",
+        matches!(gone, Err(NoDimension { id: 2 })),
+    );
+}
+
+fn see_lists<L: Ledger>(
+    rt: &impl Abort,
+    alloc: Global,
+    cross: &mut StockCross,
+    steps: &mut Steps<L>,
+) -> Result<(), Fail> {
+    set_filter(alloc, cross, DELAY, &WHOLE, "range 0 8", steps)?;
+    set_filter(alloc, cross, CARRIER, &TEXT, "exact AA", steps)?;
+    for (ignored, told) in &IGNORED {
+        let found = cross.all_filtered(ignored, steps);
+        see(rt, "all but those ignored", is_told(&found, told));
+    }
+    Ok(())
+}
+
 fn see_ignored<L: Ledger>(rt: &impl Abort, alloc: Global, blank: Blank) -> Result<(), Fail>
     requires name { blank.name ≡ L.name }
     requires parts { blank.parts ≡ L.parts }
@@ -113,17 +206,8 @@ fn see_ignored<L: Ledger>(rt: &impl Abort, alloc: Global, blank: Blank) -> Resul
 {
     let mut steps = Steps::<L>::new(blank);
     let mut cross = flights(rt, alloc, &mut steps)?;
-    cross.set_filter(DELAY, filter_of(alloc, &WHOLE, "range 0 8")?, &mut steps)?;
-    cross.set_filter(CARRIER, filter_of(alloc, &TEXT, "exact AA")?, &mut steps)?;
-    for (ignored, told) in &IGNORED {
-        assert!(rt; is_told(&cross.all_filtered(ignored, &mut steps), told));
-    }
-    let cleared = cross.clear_all(&mut steps);
-    assert!(rt; cleared == Ok(3) && cross.passing_count(&mut steps) == 4);
-    let cleared = cross.clear_all(&mut steps);
-    assert!(rt; cleared == Ok(0) && cross.events().filtered == 4);
-    assert!(rt; matches!(cross.filter(DELAY), Ok(Filter::All)));
-    assert!(rt; matches!(cross.filter(DimensionId(2)), Err(NoDimension { id: 2 })));
+    see_lists(rt, alloc, &mut cross, &mut steps)?;
+    see_cleared(rt, &mut cross, &mut steps);
     Ok(())
 }
 

@@ -1,20 +1,23 @@
 //! Records of several tags that are removed, and which are left.
 ghost use Rattle.std.specs.Prelude.{◌≡◌, ◌<◌};
 
-use crate::engine::{COUNT, StockCross, TAGGED, add_group, numbers_of, rows_of, see_entries};
-use crate::named::{a_schema, filter_of};
+use crate::engine::{StockCross, TAGGED, add_counted, add_rows, empty_cross, see_numbers};
+use crate::named::filter_of;
+use crate::see::see;
 use crate::told::{TEXT, Told};
 use std::alloc::Global;
 use std::marker::Brand;
 use std::process::Abort;
 use std::sync::ledger::{Blank, Ledger};
 use std::test::Fail;
-use xf_access::{Accessor, StockAccessor, StockRounding};
-use xf_base::{Limits, Steps};
-use xf_engine::Cross;
+use xf_access::{StockAccessor, StockRounding};
+use xf_base::Steps;
+use xf_engine::{DimensionId, GroupId};
 
 /// A filter of tags, how many records are removed by it, and the tags that are left with their numbers.
-static TAGS: [(&str, u64, &[(Told, i128)]); 5] = [
+type Case = (&'static str, u64, &'static [(Told, i128)]);
+
+static TAGS: [Case; 5] = [
     ("all", 3, &[]),
     (
         "exact x",
@@ -38,31 +41,42 @@ static TAGS: [(&str, u64, &[(Told, i128)]); 5] = [
     ),
 ];
 
+/// Tagged records with the dimension 0 of their tags, and its group 0.
+fn tagged<L: Ledger>(
+    rt: &impl Abort,
+    alloc: Global,
+    steps: &mut Steps<L>,
+) -> Result<StockCross, Fail> {
+    let mut cross = empty_cross(alloc)?;
+    add_rows(alloc, &mut cross, &TAGGED, steps)?;
+    let accessor = StockAccessor::Tags(4);
+    add_counted(rt, &mut cross, accessor, StockRounding::Same, steps)?;
+    Ok(cross)
+}
+
+/// Removes what the filter of a case lets pass, and sees what is left.
+fn see_removed<L: Ledger>(
+    rt: &impl Abort,
+    alloc: Global,
+    cross: &mut StockCross,
+    case: &Case,
+    steps: &mut Steps<L>,
+) -> Result<(), Fail> {
+    let filter = filter_of(alloc, &TEXT, case.0)?;
+    let removed = cross.remove_where(DimensionId(0), &filter, steps);
+    see(rt, case.0, removed == Ok(case.1));
+    see_numbers(rt, alloc, cross, GroupId(0), case.2, steps)
+}
+
 fn see_tags<L: Ledger>(rt: &impl Abort, alloc: Global, blank: Blank) -> Result<(), Fail>
     requires name { blank.name ≡ L.name }
     requires parts { blank.parts ≡ L.parts }
     requires some { 0 < blank.parts }
 {
     let mut steps = Steps::<L>::new(blank);
-    for (line, count, tags) in &TAGS {
-        let mut cross: StockCross = Cross::new(alloc, a_schema(alloc)?, Limits::standard());
-        cross.add_records(rows_of(alloc, &TAGGED)?, &mut steps)?;
-        let accessor = StockAccessor::Tags(4);
-        assert!(rt; accessor.fits(cross.schema()));
-        let dimension = cross.add_dimension(accessor, &mut steps)?;
-        let group = add_group(
-            rt,
-            &mut cross,
-            dimension,
-            StockRounding::Same,
-            COUNT,
-            &mut steps,
-        )?;
-        let filter = filter_of(alloc, &TEXT, line)?;
-        let removed = cross.remove_where(dimension, &filter, &mut steps)?;
-        assert!(rt; removed == *count, "{line}");
-        let found = numbers_of(rt, &cross, group, 0, &mut steps)?;
-        see_entries(rt, alloc, found.as_slice(), tags)?;
+    for case in &TAGS {
+        let mut cross = tagged(rt, alloc, &mut steps)?;
+        see_removed(rt, alloc, &mut cross, case, &mut steps)?;
     }
     Ok(())
 }
