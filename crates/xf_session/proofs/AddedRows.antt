@@ -4,6 +4,7 @@ use Rattle.std.specs.List.{AllByRecursion, enumerate_from}
 use Rattle.xf_access.specs.Stock.{keys_of_row}
 use Rattle.xf_base.specs.Schema.{IsRowOf}
 use Rattle.xf_base.specs.declared.cell.Cell.{Cell}
+use Rattle.xf_board.specs.Board.{BoardParts}
 use Rattle.xf_engine.specs.Changes as change
 use Rattle.xf_engine.specs.declared.ids.GroupId.{GroupId}
 use Rattle.xf_engine.specs.declared.ids.WholeId.{WholeId}
@@ -68,44 +69,48 @@ first-told s rows of =
     by-tests s rows (nat_lt s.cross.limits.rows (length s.cross.rows + length rows)) (nat_lt s.cross.limits.text_bytes (text_of_rows s.cross.rows + text_of_rows rows)) _
     (mismatch_of s.cross.columns (enumerate_from 0 rows)) (no_mismatch-from_rows s.cross.columns rows 0 of) refl
 
+-- a board of nothing
+no_board : BoardParts
+no_board = record { title = []; columns = []; dimensions = []; groups = []; wholes = []; charts = []; colours = [] }
+
 -- no row of the schema has a cell of another kind
 pub never-mismatched : (cross : StockState) (rows : List (List Cell)) (why : AddRefusal) (place column : ℕ) → AllByRecursion (IsRowOf cross.columns) rows
     → (why ≡ add.OutOfMemory) ⊎ (add_refusal_of keys_of_row cross rows ≡ Some why) → why ≡ add.KindMismatch place column → ⊥
 never-mismatched cross rows why place column of (inl memory) is = cc (memory, is)
 never-mismatched cross rows why place column of (inr told) is =
-    subst IsToldCause (told ∙ ap (λ (why : AddRefusal). Some why) is) (first-told (session_of cross [] [] []) rows of).1
+    subst IsToldCause (told ∙ ap (λ (why : AddRefusal). Some why) is) (first-told (session_of no_board cross [] [] []) rows of).1
 
 -- what is told where rows were added
-pub does-added : {E : Type 0} (cross new : StockState) (dimensions : List (Name × Naming)) (groups : List (Name × GroupId)) (wholes : List (Name × WholeId)) (rows : List (List Cell)) (count : ℕ) (result : Result Reply E)
+pub does-added : {E : Type 0} (board : BoardParts) (cross new : StockState) (dimensions : List (Name × Naming)) (groups : List (Name × GroupId)) (wholes : List (Name × WholeId)) (rows : List (List Cell)) (count : ℕ) (result : Result Reply E)
     → AllByRecursion (IsRowOf cross.columns) rows → new ≡ change.with_rows cross rows → add_refusal_of keys_of_row cross rows ≡ None → count ≡ length rows → result ≡ Ok (Changed (Added count))
-    → Does (rows_outcome (session_of cross dimensions groups wholes) rows) (session_of cross dimensions groups wholes) (session_of new dimensions groups wholes) result
-does-added {E = E} cross new dimensions groups wholes rows count result of is none counted answered =
-    let s : Session = session_of cross dimensions groups wholes in
-    let now : Session = session_of new dimensions groups wholes in
+    → Does (rows_outcome (session_of board cross dimensions groups wholes) rows) (session_of board cross dimensions groups wholes) (session_of board new dimensions groups wholes) result
+does-added {E = E} board cross new dimensions groups wholes rows count result of is none counted answered =
+    let s : Session = session_of board cross dimensions groups wholes in
+    let now : Session = session_of board new dimensions groups wholes in
     let first : first_cause (too_much s rows) ≡ None = (first-told s rows of).0 ∙ ap told_as none in
     let told : Does {E = E} (accepted (with_rows s rows) (added (length rows))) s now (Ok (Changed (Added count))) =
-    (ap (λ (count : ℕ). Changed (Added count)) counted, ap (λ (cross : StockState). session_of cross dimensions groups wholes) is) in
+    (ap (λ (count : ℕ). Changed (Added count)) counted, ap (λ (cross : StockState). session_of board cross dimensions groups wholes) is) in
     subst (λ (cause : Option Refusal). Does (unless_refused cause (with_rows s rows) (added (length rows))) s now result) (sym first)
     (subst (λ (result : Result Reply E). Does (accepted (with_rows s rows) (added (length rows))) s now result) (sym answered) told)
 
 -- and where they were refused
-pub does-refused : {E : Type 0} (cross new : StockState) (dimensions : List (Name × Naming)) (groups : List (Name × GroupId)) (wholes : List (Name × WholeId)) (rows : List (List Cell)) (why known : AddRefusal) (cause : Refusal) (result : Result Reply E)
+pub does-refused : {E : Type 0} (board : BoardParts) (cross new : StockState) (dimensions : List (Name × Naming)) (groups : List (Name × GroupId)) (wholes : List (Name × WholeId)) (rows : List (List Cell)) (why known : AddRefusal) (cause : Refusal) (result : Result Reply E)
     → AllByRecursion (IsRowOf cross.columns) rows → new ≡ cross → (why ≡ add.OutOfMemory) ⊎ (add_refusal_of keys_of_row cross rows ≡ Some why) → why ≡ known → told_as (Some known) ≡ Some cause → result ≡ Ok (Refused cause)
-    → Does (rows_outcome (session_of cross dimensions groups wholes) rows) (session_of cross dimensions groups wholes) (session_of new dimensions groups wholes) result
-does-refused cross new dimensions groups wholes rows why known cause result of is (inl memory) known_is tells answered =
+    → Does (rows_outcome (session_of board cross dimensions groups wholes) rows) (session_of board cross dimensions groups wholes) (session_of board new dimensions groups wholes) result
+does-refused board cross new dimensions groups wholes rows why known cause result of is (inl memory) known_is tells answered =
     let none : None ≡ Some cause = ap (λ (why : AddRefusal). told_as (Some why)) (sym memory ∙ known_is) ∙ tells in
     absurd (cc none)
-does-refused {E = E} cross new dimensions groups wholes rows why known cause result of is (inr told) known_is tells answered =
-    let s : Session = session_of cross dimensions groups wholes in
-    let now : Session = session_of new dimensions groups wholes in
+does-refused {E = E} board cross new dimensions groups wholes rows why known cause result of is (inr told) known_is tells answered =
+    let s : Session = session_of board cross dimensions groups wholes in
+    let now : Session = session_of board new dimensions groups wholes in
     let first : first_cause (too_much s rows) ≡ Some cause = (first-told s rows of).0 ∙ ap told_as (told ∙ ap (λ (why : AddRefusal). Some why) known_is) ∙ tells in
-    let same : now ≡ s = ap (λ (cross : StockState). session_of cross dimensions groups wholes) is in
+    let same : now ≡ s = ap (λ (cross : StockState). session_of board cross dimensions groups wholes) is in
     subst (λ (cause : Option Refusal). Does (unless_refused cause (with_rows s rows) (added (length rows))) s now result) (sym first)
     (subst (λ (result : Result Reply E). Does (refused cause) s now result) (sym answered) (refl, same))
 
 -- and where memory was refused
-pub does-nothing : {E : Type 0} (outcome : Outcome) (cross new : StockState) (dimensions : List (Name × Naming)) (groups : List (Name × GroupId)) (wholes : List (Name × WholeId)) (error : E) (result : Result Reply E)
-    → new ≡ cross → result ≡ Err error → Does outcome (session_of cross dimensions groups wholes) (session_of new dimensions groups wholes) result
-does-nothing {E = E} outcome cross new dimensions groups wholes error result is answered =
-    subst (λ (result : Result Reply E). Does outcome (session_of cross dimensions groups wholes) (session_of new dimensions groups wholes) result) (sym answered)
-    (ap (λ (cross : StockState). session_of cross dimensions groups wholes) is)
+pub does-nothing : {E : Type 0} (outcome : Outcome) (board : BoardParts) (cross new : StockState) (dimensions : List (Name × Naming)) (groups : List (Name × GroupId)) (wholes : List (Name × WholeId)) (error : E) (result : Result Reply E)
+    → new ≡ cross → result ≡ Err error → Does outcome (session_of board cross dimensions groups wholes) (session_of board new dimensions groups wholes) result
+does-nothing {E = E} outcome board cross new dimensions groups wholes error result is answered =
+    subst (λ (result : Result Reply E). Does outcome (session_of board cross dimensions groups wholes) (session_of board new dimensions groups wholes) result) (sym answered)
+    (ap (λ (cross : StockState). session_of board cross dimensions groups wholes) is)

@@ -12,9 +12,12 @@ pub mod Named
 pub mod NamedIds
 pub mod NamedLive
 pub mod Performed
+pub mod Phases
 pub mod ReadRows
 pub mod Sifted
-pub mod StartStates
+pub mod Declared
+pub mod StandardBoard
+pub mod StartRows
 pub mod Toggled
 pub mod WithinRows
 pub mod LastNames

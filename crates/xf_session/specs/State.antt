@@ -10,6 +10,7 @@ use Rattle.xf_base.specs.Kind.{kind_of_key_form}
 use Rattle.xf_base.specs.declared.kind.KeyKind.{KeyKind}
 use Rattle.xf_base.specs.declared.form.AtomForm.TheVariants.{Text}
 use Rattle.xf_base.specs.declared.form.KeyForm.TheVariants.{One}
+use Rattle.xf_board.specs.Board.{BoardParts}
 use Rattle.xf_engine.specs.State.{LiveDimension, State, group_ids, whole_ids}
 use Rattle.xf_engine.specs.declared.ids.GroupId.{GroupId}
 use Rattle.xf_engine.specs.declared.ids.WholeId.{WholeId}
@@ -29,8 +30,9 @@ StockFilter = Filter StockPredicate
 abbrev pub Name : Type 0
 Name = List ℕ
 
--- a crossfilter, and the names of its dimensions, groups and wholes, in order of creation
+-- the board that it began with, a crossfilter, and the names of its dimensions, groups and wholes, in order of creation
 pub record Session : Type 0 where
+  pub board : BoardParts
   pub cross : StockState
   pub dimensions : List (Name × Naming)
   pub groups : List (Name × GroupId)
@@ -40,8 +42,8 @@ abbrev pub names_in : {A : Type 0} → List (Name × A) → List Name
 names_in names = map (λ entry. entry.0) names
 
 -- that of these parts
-abbrev pub session_of : StockState → List (Name × Naming) → List (Name × GroupId) → List (Name × WholeId) → Session
-session_of cross dimensions groups wholes = record { cross = cross; dimensions = dimensions; groups = groups; wholes = wholes }
+abbrev pub session_of : BoardParts → StockState → List (Name × Naming) → List (Name × GroupId) → List (Name × WholeId) → Session
+session_of board cross dimensions groups wholes = record { board = board; cross = cross; dimensions = dimensions; groups = groups; wholes = wholes }
 
 -- the kind of the keys of an accessor
 abbrev pub kind_of : StockAccessor → KeyKind

@@ -13,7 +13,9 @@ mod filters;
 mod names;
 mod naming;
 mod records;
+mod schema;
 mod session;
+mod standard;
 mod start;
 mod things;
 

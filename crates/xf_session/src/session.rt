@@ -14,6 +14,7 @@ use std::alloc::Global;
 use std::marker::Model;
 use xf_access::{StockAccessor, StockRounding};
 use xf_base::{AtomForm, KeyForm};
+use xf_board::Board;
 use xf_engine::{Cross, DimensionId, GroupId, WholeId};
 use xf_filter::{Filter, StockPredicate};
 use xf_reduce::StockReducer;
@@ -24,10 +25,11 @@ pub type StockCross = Cross<StockAccessor, StockRounding, StockPredicate, StockR
 /// A filter whose predicates are those of the stock.
 pub type StockFilter = Filter<StockPredicate>;
 
-/// A crossfilter, and the names of its dimensions, groups and wholes.
+/// A crossfilter, the names of its dimensions, groups and wholes, and the board that it began with.
 #[derive(Drop)]
 pub struct Session {
     pub(crate) alloc: Global,
+    pub(crate) board: Board,
     pub(crate) cross: StockCross,
     pub(crate) dimensions: Names<Naming>,
     pub(crate) groups: Names<GroupId>,
@@ -43,12 +45,19 @@ impl Model for Session {
 
     ghost coded = { Prim.hlevel (codes, e.the_row.coded) };
 
-    ghost view = { λ session. session_of session.cross session.dimensions session.groups session.wholes };
+    ghost view = { λ session. session_of session.board session.cross session.dimensions session.groups session.wholes };
 
-    ghost invariant = { λ session. IsSession (session_of session.cross session.dimensions session.groups session.wholes) };
+    ghost invariant = { λ session. IsSession (session_of session.board session.cross session.dimensions session.groups session.wholes) };
 }
 
 impl Session {
+    /// Lends the board that it began with. No line changes it.
+    pub fn board(&self) -> &Board
+        ensures { result.now ≡ self.now.board }
+    {
+        &self.board
+    }
+
     /// Lends the crossfilter.
     pub fn cross(&self) -> &StockCross
         ensures { result.now ≡ self.now.cross }

@@ -54,7 +54,7 @@ impl Session {
     }
 
     /// Adds a dimension with its name, or nothing where it is refused.
-    fn push_dimension<L: Ledger>(
+    pub(crate) fn push_dimension<L: Ledger>(
         &mut self,
         name: &Text,
         accessor: StockAccessor,
@@ -126,7 +126,7 @@ impl Session {
 
     /// Adds a group of a dimension, with its name, or nothing where it is refused. The name of the dimension is for the
     /// clauses alone.
-    fn push_group<L: Ledger>(
+    pub(crate) fn push_group<L: Ledger>(
         &mut self,
         name: &Text,
         dimension: &Text,

@@ -22,13 +22,13 @@ returns-clause-command g c =
     let new = c.add_records.new.self in
     let result = c.match-add_records.result in
     let of = subst (λ (s : Session). AllByRecursion (IsRowOf s.cross.columns) rows) (sym c.self.view_is) c.requires in
-    subst (λ (old : Session). Does (rows_outcome old rows) old (session_of new s.dimensions s.groups s.wholes) result) c.self.view_is
+    subst (λ (old : Session). Does (rows_outcome old rows) old (session_of s.board new s.dimensions s.groups s.wholes) result) c.self.view_is
     (elim c.match-add_records.branch [
-      | in-Ok w ↦ does-added s.cross new s.dimensions s.groups s.wholes rows c.len-count.result result of w.in-Ok.ensures.ok w.in-Ok.ensures.accepted c.len-count.ensures w.result-is
-      | in-Err-TooManyRecords w ↦ does-refused s.cross new s.dimensions s.groups s.wholes rows _ _ _ result of w.in-Err-TooManyRecords.ensures.err w.in-Err-TooManyRecords.ensures.refused w.in-Err-TooManyRecords.field-0-is refl w.result-is
-      | in-Err-TooMuchText w ↦ does-refused s.cross new s.dimensions s.groups s.wholes rows _ _ _ result of w.in-Err-TooMuchText.ensures.err w.in-Err-TooMuchText.ensures.refused w.in-Err-TooMuchText.field-0-is refl w.result-is
-      | in-Err-TooManyEntries w ↦ does-refused s.cross new s.dimensions s.groups s.wholes rows _ _ _ result of w.in-Err-TooManyEntries.ensures.err w.in-Err-TooManyEntries.ensures.refused w.in-Err-TooManyEntries.field-0-is refl w.result-is
-      | in-Err-OutOfMemory w ↦ does-nothing (rows_outcome (session_of s.cross s.dimensions s.groups s.wholes) rows) s.cross new s.dimensions s.groups s.wholes _ result w.in-Err-OutOfMemory.ensures.err w.result-is
+      | in-Ok w ↦ does-added s.board s.cross new s.dimensions s.groups s.wholes rows c.len-count.result result of w.in-Ok.ensures.ok w.in-Ok.ensures.accepted c.len-count.ensures w.result-is
+      | in-Err-TooManyRecords w ↦ does-refused s.board s.cross new s.dimensions s.groups s.wholes rows _ _ _ result of w.in-Err-TooManyRecords.ensures.err w.in-Err-TooManyRecords.ensures.refused w.in-Err-TooManyRecords.field-0-is refl w.result-is
+      | in-Err-TooMuchText w ↦ does-refused s.board s.cross new s.dimensions s.groups s.wholes rows _ _ _ result of w.in-Err-TooMuchText.ensures.err w.in-Err-TooMuchText.ensures.refused w.in-Err-TooMuchText.field-0-is refl w.result-is
+      | in-Err-TooManyEntries w ↦ does-refused s.board s.cross new s.dimensions s.groups s.wholes rows _ _ _ result of w.in-Err-TooManyEntries.ensures.err w.in-Err-TooManyEntries.ensures.refused w.in-Err-TooManyEntries.field-0-is refl w.result-is
+      | in-Err-OutOfMemory w ↦ does-nothing (rows_outcome (session_of s.board s.cross s.dimensions s.groups s.wholes) rows) s.board s.cross new s.dimensions s.groups s.wholes _ result w.in-Err-OutOfMemory.ensures.err w.result-is
     ])
 
 pub returns-clause-loads : goal.returns-clause-loads

@@ -6,7 +6,7 @@ use Rattle.xf_session.proofs.session.Session.dispose_whole.Goals as goal
 
 pub invariant_of-self : goal.invariant_of-self
 invariant_of-self c =
-    let session : Session = session_of c.self.inside.cross c.self.inside.dimensions c.self.inside.groups c.self.inside.wholes in
+    let session : Session = session_of c.self.inside.board c.self.inside.cross c.self.inside.dimensions c.self.inside.groups c.self.inside.wholes in
     let stands : named session.wholes c.args.name ≡ Some c.in-Some.id = ap (λ (s : Session). named s.wholes c.args.name) c.self.view_is ∙ ap (named c.args.self.now.wholes) (sym c.as_str.ensures) ∙ sym c.in-Some.ensures in
     rw (c.dispose_whole-gone.ensures.state, c.remove.ensures, c.as_str-2.ensures)
     (kept-without-whole session c.args.name c.in-Some.id c.self.invariant c.is_sound-sound.ensures.sound.distinct_wholes stands)

@@ -9,7 +9,7 @@ use Rattle.xf_session.proofs.session.Session.push_dimension.Goals as goal
 
 pub invariant_of-self-in-Ok : goal.invariant_of-self-in-Ok
 invariant_of-self-in-Ok g c =
-    let session : Session = session_of c.self.inside.cross c.self.inside.dimensions c.self.inside.groups c.self.inside.wholes in
+    let session : Session = session_of c.self.inside.board c.self.inside.cross c.self.inside.dimensions c.self.inside.groups c.self.inside.wholes in
     let naming : Naming = record { id = c.in-Ok.id; form = c.form-form.result } in
     let unknown : Naming = record { id = record { 0 = 0 }; form = c.form-form.result } in
     let added : c.set_last.new.self ≡ c.self.inside.dimensions ++ (c.args.name.now, naming) ∷ [] =
@@ -20,7 +20,7 @@ invariant_of-self-in-Ok g c =
 
 pub returns-in-Ok-clause-ok : goal.returns-in-Ok-clause-ok
 returns-in-Ok-clause-ok g c =
-    let session : Session = session_of c.self.inside.cross c.self.inside.dimensions c.self.inside.groups c.self.inside.wholes in
+    let session : Session = session_of c.self.inside.board c.self.inside.cross c.self.inside.dimensions c.self.inside.groups c.self.inside.wholes in
     let naming : Naming = record { id = c.in-Ok.id; form = c.form-form.result } in
     let unknown : Naming = record { id = record { 0 = 0 }; form = c.form-form.result } in
     let added : c.set_last.new.self ≡ c.self.inside.dimensions ++ (c.args.name.now, naming) ∷ [] =

@@ -24,7 +24,7 @@ returns-then-is_err-clause-err g c =
 
 pub invariant_of-self-else-is_err : goal.invariant_of-self-else-is_err
 invariant_of-self-else-is_err g c =
-    let session : Session = session_of c.self.inside.cross c.self.inside.dimensions c.self.inside.groups c.self.inside.wholes in
+    let session : Session = session_of c.self.inside.board c.self.inside.cross c.self.inside.dimensions c.self.inside.groups c.self.inside.wholes in
     let added : c.push.new.self ≡ c.self.inside.groups ++ (c.args.name.now, c.in_ok-id.id) ∷ [] =
     where-done c.push.result (c.push.new.self ≡ c.self.inside.groups ++ (c.args.name.now, c.in_ok-id.id) ∷ []) c.push.ensures.ok (sym c.is_err.ensures.value ∙ c.if-is_err.false) in
     rw (added, c.in_ok-id.ensures.ok)
@@ -32,7 +32,7 @@ invariant_of-self-else-is_err g c =
 
 pub returns-clause-ok : goal.returns-clause-ok
 returns-clause-ok g c =
-    let session : Session = session_of c.self.inside.cross c.self.inside.dimensions c.self.inside.groups c.self.inside.wholes in
+    let session : Session = session_of c.self.inside.board c.self.inside.cross c.self.inside.dimensions c.self.inside.groups c.self.inside.wholes in
     let added : c.push.new.self ≡ c.self.inside.groups ++ (c.args.name.now, c.in_ok-id.id) ∷ [] =
     where-done c.push.result (c.push.new.self ≡ c.self.inside.groups ++ (c.args.name.now, c.in_ok-id.id) ∷ []) c.push.ensures.ok (sym c.is_err.ensures.value ∙ c.if-is_err.false) in
     rw (added, c.in_ok-id.ensures.ok)

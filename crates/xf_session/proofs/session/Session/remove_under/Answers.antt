@@ -13,7 +13,7 @@ use Rattle.xf_session.proofs.session.Session.remove_under.Goals as goal
 
 pub unreachable-requires : goal.unreachable-requires
 unreachable-requires g c =
-    let s = session_of c.self.inside.cross c.self.inside.dimensions c.self.inside.groups c.self.inside.wholes in
+    let s = session_of c.self.inside.board c.self.inside.cross c.self.inside.dimensions c.self.inside.groups c.self.inside.wholes in
     let is = rw (← c.self.view_is) at c.requires in
     let at = named_live s c.args.name.now c.args.naming c.self.invariant c.is_sound-sound.ensures.sound.distinct is in
     elim c.in-Err-NoDimension.ensures.refused [
@@ -23,7 +23,7 @@ unreachable-requires g c =
 
 pub returns : goal.returns
 returns g c =
-    let s = session_of c.self.inside.cross c.self.inside.dimensions c.self.inside.groups c.self.inside.wholes in
+    let s = session_of c.self.inside.board c.self.inside.cross c.self.inside.dimensions c.self.inside.groups c.self.inside.wholes in
     let is = rw (← c.self.view_is) at c.requires in
     let at = named_live s c.args.name.now c.args.naming c.self.invariant c.is_sound-sound.ensures.sound.distinct is in
     let name = c.args.name.now in

@@ -15,7 +15,7 @@ use Rattle.xf_session.proofs.session.Session.set_filter.Goals as goal
 
 pub unreachable-requires : goal.unreachable-requires
 unreachable-requires g c =
-    let s = session_of c.self.inside.cross c.self.inside.dimensions c.self.inside.groups c.self.inside.wholes in
+    let s = session_of c.self.inside.board c.self.inside.cross c.self.inside.dimensions c.self.inside.groups c.self.inside.wholes in
     let is = rw (← c.self.view_is) at c.requires in
     let at = named_live s c.args.name.now c.args.naming c.self.invariant c.is_sound-sound.ensures.sound.distinct is in
     elim c.in-Err-NoDimension.ensures.refused [
@@ -25,7 +25,7 @@ unreachable-requires g c =
 
 pub invariant_of-self : goal.invariant_of-self
 invariant_of-self g c =
-    let s = session_of c.self.inside.cross c.self.inside.dimensions c.self.inside.groups c.self.inside.wholes in
+    let s = session_of c.self.inside.board c.self.inside.cross c.self.inside.dimensions c.self.inside.groups c.self.inside.wholes in
     elim c.match-set_filter.branch [
       | in-Ok w ↦ kept_as s c.set_filter.new.self (change.with_filter s.cross c.args.naming.id.0 c.args.filter) w.in-Ok.ensures.ok (kept_with_filter s c.args.naming.id.0 c.args.filter c.self.invariant)
       | in-Err-WrongKind w ↦ kept_as s c.set_filter.new.self s.cross w.in-Err-WrongKind.ensures.err c.self.invariant
@@ -34,7 +34,7 @@ invariant_of-self g c =
 
 pub returns : goal.returns
 returns g c =
-    let s = session_of c.self.inside.cross c.self.inside.dimensions c.self.inside.groups c.self.inside.wholes in
+    let s = session_of c.self.inside.board c.self.inside.cross c.self.inside.dimensions c.self.inside.groups c.self.inside.wholes in
     let is = rw (← c.self.view_is) at c.requires in
     let at = named_live s c.args.name.now c.args.naming c.self.invariant c.is_sound-sound.ensures.sound.distinct is in
     let name = c.args.name.now in

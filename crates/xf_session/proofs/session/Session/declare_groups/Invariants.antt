@@ -1,0 +1,7 @@
+-- The groups of the board so far are there.
+use Rattle.xf_session.proofs.Phases.{Taken}
+use Rattle.xf_session.specs.Start.{with_groups}
+use Rattle.xf_session.proofs.session.Session.declare_groups.Given as goal
+
+abbrev pub invariant-loop-place : goal.invariant-loop-place
+invariant-loop-place g l = Taken with_groups (λ board. board.groups) l.initial.self.cross.limits l.initial.self.board l.place l.self

@@ -1,0 +1,26 @@
+-- what is declared next is taken beside what was
+use Rattle.std.proofs.Common.{◌≡◌, ◌+◌, ◌∙◌, ap, take}
+use Rattle.xf_board.specs.Board.{BoardParts}
+use Rattle.xf_session.proofs.Phases.{wholes-phase, from-first, from-own, still-inside, still-within}
+use Rattle.xf_session.specs.Start.{with_wholes}
+use Rattle.xf_session.specs.State.{Session}
+use Rattle.xf_session.proofs.session.Session.declare_wholes.Goals as goal
+
+pub declare_whole_at-requires-clause-within : goal.declare_whole_at-requires-clause-within
+declare_whole_at-requires-clause-within g c =
+    still-within with_wholes wholes-phase c.args.self.now.cross.limits c.args.self.now.board (take c.loop-place.place c.args.self.now.board.wholes) c.loop-place.self c.loop-place.invariant c.requires.within
+
+pub declare_whole_at-requires-clause-before : goal.declare_whole_at-requires-clause-before
+declare_whole_at-requires-clause-before g c =
+    from-own with_wholes wholes-phase (λ (board : BoardParts). board.wholes) c.args.self.now.cross.limits c.args.self.now.board c.loop-place.place c.loop-place.self c.loop-place.invariant
+
+pub declare_whole_at-requires-clause-inside : goal.declare_whole_at-requires-clause-inside
+declare_whole_at-requires-clause-inside g c =
+    let parts : c.wholes-place-end.result.now ≡ c.args.self.now.board.wholes = c.wholes-place-end.ensures ∙ ap (λ (s : Session). s.board.wholes) c.self.view_is in
+    still-inside with_wholes wholes-phase (λ (board : BoardParts). board.wholes) c.args.self.now.cross.limits c.args.self.now.board (take c.loop-place.place c.args.self.now.board.wholes) c.loop-place.place c.loop-place.self c.loop-place.invariant
+    (rw parts at c.loop-place-test.true)
+
+pub loop-place-preserved : goal.loop-place-preserved
+loop-place-preserved g c =
+    from-first with_wholes wholes-phase (λ (board : BoardParts). board.wholes) c.args.self.now.cross.limits c.args.self.now.board c.loop-place.place (c.loop-place.place + 1) c.loop-place.self c.declare_whole_at.new.self
+    c.loop-place.invariant c.in_ok-declare_whole_at.ensures
