@@ -3,6 +3,7 @@
 
 usage: bench/run.py PROGRAM [RECORDS ..]
        bench/run.py --verbs PROGRAM [RECORDS ..]
+       bench/run.py --flights PROGRAM [RECORDS ..]
        bench/run.py --make FILE RECORDS numbers|mixed
 
 For each number of records (10,000, 100,000 and 1,000,000 where none is given) it writes two files into a temporary
@@ -10,9 +11,12 @@ folder: four columns of whole numbers, and twelve columns of all kinds with the 
 each with sessions of 0, 1 and 20 range filters, three times, and prints a table: the shortest wall time, the greatest
 peak memory, and the bytes written. With --verbs it runs a session of each verb instead, on four columns of whole numbers of
 which one stays as a dimension and a group, so that the dashboard behind each answer is short, and sessions of long lines and
-of many. With --make it only writes one file. It needs Python 3.8 on Linux and nothing else.
+of many. With --flights it loads so many flights, made by the rule of examples/flights, into the board there, whose nine
+dimensions are over dates, numbers, texts, tags and pairs, and moves 0, 1 and 20 brushes on them. With --make it only writes
+one file. It needs Python 3.8 on Linux and nothing else.
 """
 
+import importlib.util
 import os
 import sys
 import tempfile
@@ -148,6 +152,64 @@ def measure_verbs(program, sizes):
             print(measure_lines(program, folder, 0, name, lines), flush=True)
 
 
+EXAMPLES = os.path.join(os.path.dirname(os.path.dirname(os.path.abspath(__file__))), "examples")
+
+# Brushes as an analyst moves them, on each dimension of the flights.
+BRUSHES = [
+    "filter hour range 6 12",
+    "filter hour range 12 18",
+    "filter hour range 17 23",
+    "toggle carrier exact Kestrel",
+    "toggle carrier exact Aurora",
+    "toggle carrier exact Kestrel",
+    "filter delay range 30 1000",
+    "filter date range 2025-06-01 2025-09-01",
+    "filter date range 2025-07-01 2025-10-01",
+    "toggle origin exact Northport",
+    "clear hour",
+    "filter cause exact weather",
+    "clear carrier",
+    "filter distance range 500 1000",
+    "filter weekday range 1 6",
+    "clear cause",
+    "filter place exact Mills|Aurora",
+    "clear origin",
+    "clear delay",
+    "clearall",
+]
+
+
+def write_flights(path, records):
+    """Flights by the rule of the example, over its year again and again."""
+    sys.dont_write_bytecode = True
+    spec = importlib.util.spec_from_file_location("make", os.path.join(EXAMPLES, "make.py"))
+    make = importlib.util.module_from_spec(spec)
+    spec.loader.exec_module(make)
+    draws = make.Draws(1)
+    with open(path, "w", encoding="ascii") as data:
+        data.write("date,hour,carrier,origin,distance,delay,causes\n")
+        for number in range(records):
+            flight = make.flight_of(number % (8 * 365), draws)
+            data.write(",".join(str(value) for value in flight) + "\n")
+
+
+def measure_flights(program, sizes):
+    board = os.path.join(EXAMPLES, "flights", "board.json")
+    print("| flights | brushes | wall time (s) | peak memory (MiB) | bytes written |")
+    print("|---:|---:|---:|---:|---:|")
+    for records in sizes:
+        with tempfile.TemporaryDirectory() as folder:
+            data, session, output = (os.path.join(folder, name) for name in ("flights.csv", "session.txt", "output.txt"))
+            write_flights(data, records)
+            for brushes in FILTERS:
+                with open(session, "w", encoding="ascii") as text:
+                    text.write("\n".join([f"load {data}", *BRUSHES[:brushes]]) + "\n")
+                runs = [measure(program, [board, session], output) for _ in range(RUNS)]
+                seconds = min(run[0] for run in runs)
+                peak = max(run[1] for run in runs)
+                print(f"| {records:,} | {brushes} | {seconds:.3f} | {peak / 1024:.1f} | {os.path.getsize(output):,} |", flush=True)
+
+
 def measure(program, words, output):
     """The seconds and the KiB of one run."""
     with open(output, "wb") as out:
@@ -179,6 +241,9 @@ def main():
         return
     if len(words) > 1 and words[0] == "--verbs":
         measure_verbs(os.path.abspath(words[1]), [int(word) for word in words[2:]] or [1_000_000])
+        return
+    if len(words) > 1 and words[0] == "--flights":
+        measure_flights(os.path.abspath(words[1]), [int(word) for word in words[2:]] or RECORDS)
         return
     if not words or words[0].startswith("-"):
         sys.exit(__doc__)

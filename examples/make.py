@@ -1,7 +1,7 @@
 #!/usr/bin/env python3
 """Writes one of the made-up files here to standard output. README.md beside it states the rules.
 
-usage: make.py commutes|orders
+usage: make.py commutes|orders|flights
 """
 
 import datetime
@@ -9,6 +9,8 @@ import sys
 
 
 DISTRICTS = ["Harbour", "Old Town", "\"Mills, East\"", "Hillside"]
+CARRIERS = ["Aurora", "Kestrel", "Lowland Air", "Polar Wings"]
+ORIGINS = ["Eastfield", "Harbour", "Mills", "Northport", "Southmere"]
 
 
 class Draws:
@@ -87,7 +89,46 @@ def print_orders():
         print(",".join(str(value) for value in order_of(number, draws)))
 
 
-PRINTERS = {"commutes": print_commutes, "orders": print_orders}
+def is_stormy(month, origin, draws):
+    """In winter every second flight from Northport, else one in ten."""
+    return draws.draw(10) < (5 if month in (12, 1, 2) and origin == "Northport" else 1)
+
+
+def is_behind(hour, carrier, draws):
+    """Delays pile up over the day, most of all where an aircraft turns round in half an hour."""
+    chance = hour - 8 if carrier == "Kestrel" else (hour - 8) // 4
+    return draws.draw(20) < chance
+
+
+def flight_of(number, draws):
+    date = datetime.date(2025, 1, 1) + datetime.timedelta(days=number // 8)
+    hour = 6 + draws.draw(17)
+    carrier = CARRIERS[draws.draw(len(CARRIERS))]
+    origin = ORIGINS[draws.draw(len(ORIGINS))]
+    tenths = 1800 + draws.draw(12000)
+    causes = []
+    delay = draws.draw(11) - 6
+    if is_stormy(date.month, origin, draws):
+        causes.append("weather")
+        delay += 35 + draws.draw(60)
+    if is_behind(hour, carrier, draws):
+        causes.append("late aircraft")
+        delay += 10 + hour + draws.draw(30)
+    if draws.draw(25) == 0:
+        causes.append("crew")
+        delay += 20 + draws.draw(40)
+    told = "" if draws.draw(50) == 0 else delay
+    return date.isoformat(), hour, carrier, origin, f"{tenths // 10}.{tenths % 10}", told, ";".join(causes)
+
+
+def print_flights():
+    draws = Draws(1)
+    print("date,hour,carrier,origin,distance,delay,causes")
+    for number in range(8 * 365):
+        print(",".join(str(value) for value in flight_of(number, draws)))
+
+
+PRINTERS = {"commutes": print_commutes, "orders": print_orders, "flights": print_flights}
 
 
 def main():

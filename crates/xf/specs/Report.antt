@@ -31,8 +31,8 @@ caused_line name cause = codes "xf: " ++ word_text name ++ codes ": " ++ cause +
 abbrev pub report_line : Status → Bool → List ℕ → List ℕ → List ℕ
 report_line status.Done seen name cause = []
 report_line status.DoneWithRefusals seen name cause = []
-report_line status.Usage true name cause = codes "xf: BOARD is a CSV file whose name ends in .csv\n"
-report_line status.Usage false name cause = codes "xf: usage: xf [--view page|data] [--demo N] BOARD SESSION, where BOARD is a CSV file whose name ends in .csv\n"
+report_line status.Usage true name cause = codes "xf: BOARD is a board file, or a CSV file whose name ends in .csv\n"
+report_line status.Usage false name cause = codes "xf: usage: xf [--view page|data] [--demo N] BOARD SESSION, where BOARD is a board file, or a CSV file whose name ends in .csv\n"
 report_line status.BoardRefused true name cause = []
 report_line status.BoardRefused false name cause = caused_line name cause
 report_line status.ReadFault seen name cause = codes "xf: cannot read " ++ word_text name ++ codes ": " ++ cause ++ 10 ∷ []

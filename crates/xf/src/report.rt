@@ -10,9 +10,9 @@ use xf_base::{OutOfMemory, put_word};
 use xf_outside::FetchFailure;
 
 const USAGE: &[u8] =
-    b"xf: usage: xf [--view page|data] [--demo N] BOARD SESSION, where BOARD is a CSV file whose name ends in .csv\n";
+    b"xf: usage: xf [--view page|data] [--demo N] BOARD SESSION, where BOARD is a board file, or a CSV file whose name ends in .csv\n";
 
-const BOARD_RULE: &[u8] = b"xf: BOARD is a CSV file whose name ends in .csv\n";
+const BOARD_RULE: &[u8] = b"xf: BOARD is a board file, or a CSV file whose name ends in .csv\n";
 
 /// The line for a run that ended with a status, in the manner of Unix tools, or nothing. `fetch` is the last fetch that
 /// gave no bytes, and `put` the error of the last put that failed. `is_seen` says that the person has standard output

@@ -5,23 +5,21 @@ use Rattle.std.specs.FinMap.{get}
 use Rattle.xf_app.proofs.Put.{part-nothing}
 use Rattle.xf_app.proofs.Told.{told-both, told-each, told-map}
 use Rattle.xf_app.specs.Due.{Due, absent_due, board_due, due_of, file_due, files_due, names_due, progress_due, refused_due, session_of, too_long_due, usage_due}
-use Rattle.xf_app.specs.Ends.{Counted, Ends, EndsSilent, EndsUnfetched, IsRun, Plays, Sides}
+use Rattle.xf_app.specs.Ends.{Counted, Ends, EndsRefused, EndsSilent, EndsUnfetched, IsRun, Plays, Sides}
 use Rattle.xf_app.specs.Put.{Puts, PutsPart}
 use Rattle.xf_app.specs.Run.{CountsFaults, CountsMisses, HasCause, Headline, Holds, IsAccepted, IsStopped, MeetsDue, NoMiss, NoReadFault, NoWriteFault, OneMiss, ReadingFailed, RunAccount, WritingFailed}
+use Rattle.xf_app.specs.Start.{start_in}
 use Rattle.xf_app.specs.Words.{names_of}
+use Rattle.xf_app.specs.declared.start.StartRefusal.{StartRefusal}
+use Rattle.xf_app.specs.declared.start.StartRefusal.TheVariants as start
 use Rattle.xf_app.specs.declared.status.Status.{Status}
 use Rattle.xf_app.specs.declared.status.Status.TheVariants as status
-use Rattle.xf_base.specs.Bounds.{Bounds, standard}
 use Rattle.xf_base.specs.declared.limits.TheConstants.Limits.{FILE_BYTES}
 use Rattle.xf_outside.specs.Account.{DepotAccount, Files, SinkAccount}
 use Rattle.xf_outside.specs.Count.{FaultsAfterFetch, MissesAfterFetch, Rose, RoseExactly}
 use Rattle.xf_outside.specs.declared.depot.FetchFault.{FetchFault}
 use Rattle.xf_outside.specs.declared.depot.FetchFault.TheVariants as fetch
-use Rattle.xf_reply.specs.declared.refusal.Refusal.{Refusal}
-use Rattle.xf_session.specs.Start.{csv_session}
 use Rattle.xf_session.specs.State.{Session}
-use Rattle.xf_session.specs.declared.start.CsvStart.{CsvStart}
-use Rattle.xf_session.specs.declared.start.CsvStart.TheVariants.{OutOfMemory, Refused}
 
 -- what the depot counted is as this status tells it, where its text is put whole and where it is not
 record CountsAs (run : RunAccount) (got : Status) : Type 0 where
@@ -51,10 +49,10 @@ abbrev after_board : Files → List ℕ → Session → Due
 after_board files session board = file_due session (get files session) (λ s. progress_due (session_of files board s))
 
 -- what is due for a board that is held is what it reads as
-files_due-held : (files : Files) (name session bytes : List ℕ) (read : Result Session Refusal) → Holds files name bytes → csv_session standard bytes ≡ read
+files_due-held : (files : Files) (name session bytes : List ℕ) (read : Result Session StartRefusal) → Holds files name bytes → start_in name bytes ≡ read
     → files_due name session files ≡ board_due read (after_board files session)
 files_due-held files name session bytes read held made =
-    file_due-held files name bytes (λ b. board_due (csv_session standard b) (after_board files session)) held ∙ ap (λ r. board_due r (after_board files session)) made
+    file_due-held files name bytes (λ b. board_due (start_in name b) (after_board files session)) held ∙ ap (λ r. board_due r (after_board files session)) made
 
 -- the headline follows from what is due
 headline-from : (run : RunAccount) (got : Status) → HasCause run got → MeetsDue run got → Headline run got
@@ -202,37 +200,44 @@ run-no_board run name session fetch.Absent got names missed h =
     ends run (absent_due name) got is (accepted run.words (name, session) names, miss.0) (counted-absent run name missed) h
 run-no_board run name session fetch.TooLong got names missed h =
     let more = missed.too_long refl in
-    let is = names-due run name session (too_long_due name) (λ files. IsSomeAnd (get files name) (λ bytes. FILE_BYTES < length bytes)) names more.1 (λ files long. file_due-long files name (λ b. board_due (csv_session standard b) (after_board files session)) long) in
+    let is = names-due run name session (too_long_due name) (λ files. IsSomeAnd (get files name) (λ bytes. FILE_BYTES < length bytes)) names more.1 (λ files long. file_due-long files name (λ b. board_due (start_in name b) (after_board files session)) long) in
     ends run (too_long_due name) got is (accepted run.words (name, session) names, more.0) (counted-too_long run name missed) h
 run-no_board run name session fetch.Failed got names missed h = silent-read_fault run got (accepted run.words (name, session) names) (missed.failed refl) h
 run-no_board run name session fetch.OutOfMemory got names missed h = silent-memory run got (missed.quiet (λ e. cc e)) h
 
--- the board was refused
-pub run-refused : (run : RunAccount) (name session bytes : List ℕ) (cause : Refusal) (got : Status) → names_of run.words ≡ Some (name, session)
-    → IfSome run.before.depot.files (λ files. Holds files name bytes) → NoReadFault run → NoMiss run → csv_session standard bytes ≡ Err cause
-    → Ends (refused_due cause) run.before.sink run.after.sink got → IsRun run got
-run-refused run name session bytes cause got names held quiet found made h =
-    let due = names-due run name session (refused_due cause) (λ files. Holds files name bytes) names held (λ files holds. files_due-held files name session bytes (Err cause) holds made) in
-    ends run (refused_due cause) got due (accepted run.words (name, session) names) (record { faults = quiet; told = λ w. (quiet, w); misses = found }) h
+-- what a start was said to be, where memory was not refused
+pub started : (name bytes : List ℕ) (given : Session) → (◌≡◌ {A = Result Session StartRefusal} (Ok given) (Err start.OutOfMemory)) ⊎ (Ok given ≡ start_in name bytes) → start_in name bytes ≡ Ok given
+started name bytes given (inl none) = cc none
+started name bytes given (inr is) = sym is
 
--- a refused file has its cause
-pub csv-refused : (start : CsvStart) (cause : Refusal) (made : Result Session Refusal) → start ≡ Refused cause
-    → (start ≡ OutOfMemory) ⊎ ((own : Refusal) × (start ≡ Refused own) × (made ≡ Err own)) → made ≡ Err cause
-csv-refused start cause made is (inl none) = let clash : ◌≡◌ {A = CsvStart} (Refused cause) OutOfMemory = sym is ∙ none in cc clash
-csv-refused start cause made is (inr told) = let both : ◌≡◌ {A = CsvStart} (Refused told.0) (Refused cause) = sym told.1 ∙ is in let same : told.0 ≡ cause = cc in told.2 ∙ ap (λ c. Err c) same
+-- the board's file has no session
+pub run-refused : (run : RunAccount) (name session bytes : List ℕ) (refusal : StartRefusal) (got : Status) → names_of run.words ≡ Some (name, session)
+    → IfSome run.before.depot.files (λ files. Holds files name bytes) → NoReadFault run → NoMiss run
+    → (◌≡◌ {A = Result Session StartRefusal} (Err refusal) (Err start.OutOfMemory)) ⊎ (Err refusal ≡ start_in name bytes)
+    → EndsRefused refusal run.before.sink run.after.sink got → IsRun run got
+run-refused run name session bytes refusal got names held quiet found made h = go refusal made h
+  where
+    caused-by : (cause : StartRefusal) → start_in name bytes ≡ Err cause → Ends (refused_due cause) run.before.sink run.after.sink got → IsRun run got
+    caused-by cause is ended =
+        let due = names-due run name session (refused_due cause) (λ files. Holds files name bytes) names held (λ files holds. files_due-held files name session bytes (Err cause) holds is) in
+        ends run (refused_due cause) got due (accepted run.words (name, session) names) (record { faults = quiet; told = λ w. (quiet, w); misses = found }) ended
 
--- the session of a file within the limits that nobody lowered
-pub csv-standard : (limits : Bounds) (slice bytes : List ℕ) (made : Result Session Refusal) → limits ≡ standard → slice ≡ bytes → csv_session limits slice ≡ made → csv_session standard bytes ≡ made
-csv-standard limits slice bytes made usual same is = subst (λ b. csv_session standard b ≡ made) same (subst (λ l. csv_session l slice ≡ made) usual is)
+    go : (cause : StartRefusal) → (◌≡◌ {A = Result Session StartRefusal} (Err cause) (Err start.OutOfMemory)) ⊎ (Err cause ≡ start_in name bytes)
+        → EndsRefused cause run.before.sink run.after.sink got → IsRun run got
+    go start.OutOfMemory is ended = silent-memory run got quiet ended
+    go (start.Data cause) (inl none) ended = cc none
+    go (start.Data cause) (inr is) ended = caused-by (start.Data cause) (sym is) ended
+    go (start.Board cause) (inl none) ended = cc none
+    go (start.Board cause) (inr is) ended = caused-by (start.Board cause) (sym is) ended
 
 -- what is due where the board was accepted
-session-due : (name session bytes : List ℕ) (board : Session) (files : Files) → Holds files name bytes → csv_session standard bytes ≡ Ok board
+session-due : (name session bytes : List ℕ) (board : Session) (files : Files) → Holds files name bytes → start_in name bytes ≡ Ok board
     → files_due name session files ≡ file_due session (get files session) (λ s. progress_due (session_of files board s))
 session-due name session bytes board files holds made = files_due-held files name session bytes (Ok board) holds made
 
 -- the session was not fetched, after a board that was accepted
 pub run-no_session : (run : RunAccount) (name session bytes : List ℕ) (board : Session) (cause : FetchFault) (got : Status) → names_of run.words ≡ Some (name, session)
-    → IfSome run.before.depot.files (λ files. Holds files name bytes) → csv_session standard bytes ≡ Ok board → IsMissed run session cause
+    → IfSome run.before.depot.files (λ files. Holds files name bytes) → start_in name bytes ≡ Ok board → IsMissed run session cause
     → EndsUnfetched cause session run.before.sink run.after.sink got → IsRun run got
 run-no_session run name session bytes board fetch.Absent got names held made missed h =
     let miss = missed.absent refl in
@@ -284,7 +289,7 @@ miss_counts run status.Absent before after misses depot_is h = absurd h
 miss_counts run status.TooLong before after misses depot_is h = absurd h
 
 pub run-played : (run : RunAccount) (name session_name bytes session : List ℕ) (start : Session) (got : Status) (before : Sides) → names_of run.words ≡ Some (name, session_name)
-    → IfSome run.before.depot.files (λ files. Holds files name bytes) → IfSome run.before.depot.files (λ files. Holds files session_name session) → csv_session standard bytes ≡ Ok start
+    → IfSome run.before.depot.files (λ files. Holds files name bytes) → IfSome run.before.depot.files (λ files. Holds files session_name session) → start_in name bytes ≡ Ok start
     → before.depot.files ≡ run.before.depot.files → before.depot.faults ≡ run.before.depot.faults → before.depot.misses ≡ run.before.depot.misses → before.sink ≡ run.before.sink
     → Counted got before (record { depot = run.after.depot; sink = run.after.sink })
     → IfSome before.depot.files (λ files. Plays files start session before.sink run.after.sink got) → IsRun run got

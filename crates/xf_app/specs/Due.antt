@@ -3,19 +3,17 @@ use Rattle.std.specs.Prelude.{ℕ, ◌==◌, nat_lt, if◌then◌else◌, codes,
 use Rattle.std.specs.FinMap.{get}
 use Rattle.xf_app.specs.Page.{data_view}
 use Rattle.xf_app.specs.Lines.{lines_of}
+use Rattle.xf_app.specs.Start.{start_in, start_words}
 use Rattle.xf_app.specs.Words.{names_of}
+use Rattle.xf_app.specs.declared.start.StartRefusal.{StartRefusal}
 use Rattle.xf_app.specs.declared.status.Status.{Status}
 use Rattle.xf_app.specs.declared.status.Status.TheVariants as status
-use Rattle.xf_base.specs.Bounds.{standard}
 use Rattle.xf_base.specs.Word.{word_text}
 use Rattle.xf_base.specs.declared.limits.TheConstants.Limits.{FILE_BYTES}
 use Rattle.xf_model.specs.Replay.{Progress, replay}
 use Rattle.xf_outside.specs.Account.{Files}
-use Rattle.xf_reply.specs.Refused.{refusal_words}
-use Rattle.xf_reply.specs.declared.refusal.Refusal.{Refusal}
 use Rattle.xf_session.specs.Command.{command}
 use Rattle.xf_session.specs.Outcome.{written}
-use Rattle.xf_session.specs.Start.{csv_session}
 use Rattle.xf_session.specs.State.{Session}
 
 -- the status that a run ends with, and the text that it puts
@@ -34,8 +32,8 @@ absent_line name = codes "absent " ++ word_text name ++ 10 ∷ []
 abbrev pub too_long_line : List ℕ → List ℕ
 too_long_line name = codes "too long " ++ word_text name ++ 32 ∷ decimal FILE_BYTES ++ 10 ∷ []
 
-abbrev pub refused_line : Refusal → List ℕ
-refused_line cause = codes "board refused " ++ refusal_words cause ++ 10 ∷ []
+abbrev pub refused_line : StartRefusal → List ℕ
+refused_line cause = codes "board refused " ++ start_words cause ++ 10 ∷ []
 
 -- ---- the session
 
@@ -61,7 +59,7 @@ absent_due name = record { status = status.Absent; text = absent_line name }
 abbrev pub too_long_due : List ℕ → Due
 too_long_due name = record { status = status.TooLong; text = too_long_line name }
 
-abbrev pub refused_due : Refusal → Due
+abbrev pub refused_due : StartRefusal → Due
 refused_due cause = record { status = status.BoardRefused; text = refused_line cause }
 
 -- what is due for the file of a name: it is not there, it is too long, or its bytes say
@@ -70,7 +68,7 @@ file_due name None given = absent_due name
 file_due name (Some bytes) given = if nat_lt FILE_BYTES (length bytes) then too_long_due name else given bytes
 
 -- what is due for a board: it is refused, or its session says
-abbrev pub board_due : Result Session Refusal → (Session → Due) → Due
+abbrev pub board_due : Result Session StartRefusal → (Session → Due) → Due
 board_due (Err cause) given = refused_due cause
 board_due (Ok start) given = given start
 
@@ -78,7 +76,7 @@ board_due (Ok start) given = given start
 abbrev pub files_due : List ℕ → List ℕ → Files → Due
 files_due board_name session_name files =
     file_due board_name (get files board_name) (λ bytes.
-    board_due (csv_session standard bytes) (λ start.
+    board_due (start_in board_name bytes) (λ start.
     file_due session_name (get files session_name) (λ session. progress_due (session_of files start session))))
 
 -- what is due for words that were read as names, and for the files that are told, if they are

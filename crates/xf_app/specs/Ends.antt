@@ -1,10 +1,12 @@
 -- Only the private parts of a run need this file: how each of them ends, and what all of it together gives.
 use Rattle.std.specs.Prelude.{◌≡◌, ◌⊎◌, ℕ, ◌+◌, ◌≤◌, List, [], Result, Ok, Err}
-use Rattle.xf_app.specs.Due.{Due, absent_due, progress_due, session_of, too_long_due}
+use Rattle.xf_app.specs.Due.{Due, absent_due, progress_due, refused_due, session_of, too_long_due}
 use Rattle.xf_app.specs.Page.{data_view}
 use Rattle.xf_app.specs.Put.{Puts, PutsPart}
 use Rattle.xf_app.specs.Run.{CountsFaults, CountsMisses, HasCause, Headline, IsStopped, MeetsDue, RunAccount}
 use Rattle.xf_app.specs.declared.replay.Tally.{Tally}
+use Rattle.xf_app.specs.declared.start.StartRefusal.{StartRefusal}
+use Rattle.xf_app.specs.declared.start.StartRefusal.TheVariants as start
 use Rattle.xf_app.specs.declared.status.Status.{Status}
 use Rattle.xf_app.specs.declared.status.Status.TheVariants as status
 use Rattle.xf_model.specs.Replay.{refusal_count, state_after, step_count}
@@ -44,6 +46,12 @@ EndsUnfetched fetch.Absent name before after got = Ends (absent_due name) before
 EndsUnfetched fetch.TooLong name before after got = Ends (too_long_due name) before after got
 EndsUnfetched fetch.Failed name before after got = EndsSilent status.ReadFault before after got
 EndsUnfetched fetch.OutOfMemory name before after got = EndsSilent status.Memory before after got
+
+-- the end of a run whose board's file has no session
+abbrev pub EndsRefused : StartRefusal → SinkAccount → SinkAccount → Status → Type 0
+EndsRefused (start.Data cause) before after got = Ends (refused_due (start.Data cause)) before after got
+EndsRefused (start.Board cause) before after got = Ends (refused_due (start.Board cause)) before after got
+EndsRefused start.OutOfMemory before after got = EndsSilent status.Memory before after got
 
 -- ---- in the session: what the outside counts, whatever it tells
 

@@ -4,4 +4,5 @@ pub mod Lines
 pub mod Page
 pub mod Put
 pub mod Run
+pub mod Start
 pub mod Words

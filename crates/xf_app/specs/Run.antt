@@ -3,14 +3,13 @@ use Rattle.std.specs.Prelude.{◌≡◌, ◌⊎◌, ℕ, ◌+◌, ◌≤◌, Lis
 use Rattle.std.specs.FinMap.{get}
 use Rattle.xf_app.specs.Due.{due_of, session_of}
 use Rattle.xf_app.specs.Put.{Puts, PutsPart}
+use Rattle.xf_app.specs.Start.{start_in}
 use Rattle.xf_app.specs.Words.{names_of}
 use Rattle.xf_app.specs.declared.status.Status.{Status}
 use Rattle.xf_app.specs.declared.status.Status.TheVariants as status
-use Rattle.xf_base.specs.Bounds.{standard}
 use Rattle.xf_base.specs.declared.limits.TheConstants.Limits.{FILE_BYTES}
 use Rattle.xf_outside.specs.Account.{DepotAccount, Files, SinkAccount}
 use Rattle.xf_outside.specs.Count.{Rose, RoseExactly}
-use Rattle.xf_session.specs.Start.{csv_session}
 use Rattle.xf_session.specs.State.{Session}
 
 -- what stands outside a run: what its depot and its sink tell
@@ -117,6 +116,6 @@ abbrev pub Headline : RunAccount → Status → Type 0
 Headline run got =
     (name session_name bytes session : List ℕ) (files : Files) (start : Session)
     → names_of run.words ≡ Some (name, session_name) → run.before.depot.files ≡ Some files
-    → Holds files name bytes → csv_session standard bytes ≡ Ok start → Holds files session_name session
+    → Holds files name bytes → start_in name bytes ≡ Ok start → Holds files session_name session
     → (ReadingFailed run → ⊥) → (WritingFailed run → ⊥) → (got ≡ status.Memory → ⊥)
     → Puts run.before.sink run.after.sink (session_of files start session).text

@@ -10,6 +10,7 @@ mod output;
 mod page;
 mod program;
 mod replay;
+mod start;
 mod status;
 mod words;
 

@@ -1,13 +1,15 @@
 //! What a run puts, and how it ends with that.
 ghost use Rattle.std.specs.Prelude.{◌≡◌, IfErr, IfOk, OnOk};
-ghost use Rattle.xf_app.specs.Due.{absent_line, refused_due, refused_line, too_long_line};
-ghost use Rattle.xf_app.specs.Ends.{Ends, EndsUnfetched, PutsWhole, StopsIn};
+ghost use Rattle.xf_app.specs.Due.{absent_line, refused_line, too_long_line};
+ghost use Rattle.xf_app.specs.Ends.{Ends, EndsRefused, EndsUnfetched, PutsWhole, StopsIn};
 
+use crate::start::StartRefusal;
 use crate::status::Status;
 use std::alloc::Global;
 use xf_base::{Limits, OutOfMemory, put_number, put_word};
+use xf_board::put_board_refusal;
 use xf_outside::{FetchFault, PutFault, Sink};
-use xf_reply::{Refusal, put_refusal};
+use xf_reply::put_refusal;
 
 /// Puts a text, or gives the status with which the run ends.
 pub fn put<S: Sink>(sink: &mut S, text: &[u8]) -> Result<(), Status>
@@ -31,11 +33,11 @@ pub fn tell<S: Sink>(sink: &mut S, line: &[u8], status: Status) -> Status
     }
 }
 
-/// Ends the run where the board is refused.
-pub fn tell_refused<S: Sink>(alloc: Global, sink: &mut S, cause: &Refusal) -> Status
-    ensures { Ends (refused_due cause.now) (S.account sink.old) (S.account sink.new) result }
+/// Ends the run where the board's file has no session.
+pub fn tell_refused<S: Sink>(alloc: Global, sink: &mut S, refusal: &StartRefusal) -> Status
+    ensures { EndsRefused refusal.now (S.account sink.old) (S.account sink.new) result }
 {
-    match refused_line(alloc, cause) {
+    match refused_line(alloc, refusal) {
         Ok(line) => tell(sink, line.as_slice(), Status::BoardRefused),
         Err(OutOfMemory) => Status::Memory,
     }
@@ -57,12 +59,17 @@ pub fn tell_unfetched<S: Sink>(alloc: Global, sink: &mut S, name: &str, fault: F
     }
 }
 
-/// The line of a refused board.
-fn refused_line(alloc: Global, cause: &Refusal) -> Result<Vec<u8>, OutOfMemory>
-    ensures { IfOk result (λ line. line.items ≡ refused_line cause.now) }
+/// The line of a refused board. There is none where memory was refused.
+fn refused_line(alloc: Global, refusal: &StartRefusal) -> Result<Vec<u8>, OutOfMemory>
+    ensures cause { IfOk result (λ line. line.items ≡ refused_line refusal.now) }
+    ensures memory { IfOk result (λ _. refusal.now ≡ StartRefusal.OutOfMemory → ⊥) }
 {
     let mut line = Vec::from_slice(alloc, b"board refused ")?;
-    put_refusal(&mut line, cause)?;
+    match refusal {
+        StartRefusal::Data(cause) => put_refusal(&mut line, cause)?,
+        StartRefusal::Board(cause) => put_board_refusal(&mut line, cause)?,
+        StartRefusal::OutOfMemory => return Err(OutOfMemory),
+    }
     line.push(b'\n')?;
     Ok(line)
 }

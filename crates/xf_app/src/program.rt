@@ -6,18 +6,19 @@ ghost use Rattle.xf_app.specs.Words.{names_of};
 
 use crate::output::{tell, tell_refused, tell_unfetched};
 use crate::replay::replay;
+use crate::start::start_of;
 use crate::status::Status;
 use crate::words::names_of;
 use std::alloc::Global;
 use std::sync::ledger::Ledger;
 use xf_base::{Limits, Steps};
 use xf_outside::{Depot, Sink};
-use xf_session::{CsvStart, Session};
 
 const USAGE: &[u8] = b"usage: xf [--view page|data] [--demo N] BOARD SESSION\n";
 
-/// Replays a session on a board. The words are `BOARD.csv SESSION`, the names of two files that the depot holds; what
-/// is written goes to the sink. Nothing else is read and nothing else is written.
+/// Replays a session on a board. The words are `BOARD SESSION`, the names of two files that the depot holds: a CSV file
+/// where the name of the board ends in `.csv`, else a board file. What is written goes to the sink. Beside the files that
+/// lines load nothing else is read, and nothing else is written.
 pub fn run<D: Depot, S: Sink, L: Ledger>(
     alloc: Global,
     words: &[String],
@@ -71,10 +72,9 @@ fn answer<D: Depot, S: Sink, L: Ledger>(
         Ok(bytes) => bytes,
         Err(fault) => return tell_unfetched(alloc, sink, board_name, fault),
     };
-    let start = match Session::from_csv(alloc, bytes.as_slice(), Limits::standard()) {
+    let start = match start_of(alloc, board_name, bytes.as_slice()) {
         Ok(start) => start,
-        Err(CsvStart::Refused(cause)) => return tell_refused(alloc, sink, &cause),
-        Err(CsvStart::OutOfMemory) => return Status::Memory,
+        Err(refusal) => return tell_refused(alloc, sink, &refusal),
     };
     drop(bytes);
     let session = match depot.fetch(alloc, session_name, Limits::FILE_BYTES) {

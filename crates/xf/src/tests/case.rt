@@ -49,6 +49,14 @@ group b 3
   30 1
 ";
 
+/// What `passing` gives on a board file without records.
+pub(super) const PASSING: &str = "step 1 ok
+  0
+records 0 passing 0
+whole all 0
+group of_a 0
+";
+
 pub(super) const USAGE: &str = "usage: xf [--view page|data] [--demo N] BOARD SESSION\n";
 
 /// The files of the cases that bring none of their own.
@@ -56,6 +64,16 @@ const FILES: &[(&str, &[u8])] = &[
     ("b.csv", BOARD),
     ("s.txt", SESSION),
     (".csv", BOARD),
+    ("b.CSV", BOARD),
+    (
+        "board.json",
+        br#"{"version":1,"columns":[{"name":"a","kind":"int"}],"dimensions":[{"name":"a","from":["column","a"]}],"groups":[{"name":"of_a","of":"a","reduce":["count"]}],"wholes":[{"name":"all","reduce":["count"]}]}"#,
+    ),
+    (
+        "broken.json",
+        br#"{"version":1,"columns":[{"name":"a","kind":"int"}],"dimensions":[{"name":"a","from":["column","a"]}],"groups":[{"name":"of_a","of":"b","reduce":["count"]}]}"#,
+    ),
+    ("pass.txt", b"passing\n"),
     ("empty.csv", b""),
     ("uneven.csv", b"a,b\n1\n"),
     ("load.txt", b"filter a range 2 3\nload more.csv\nsize\n"),
