@@ -1,12 +1,13 @@
-//! The program `xf BOARD.csv SESSION`: replays a session of filters on a board, and writes what each step gives.
+//! The program `xf BOARD SESSION`: replays a session on a board, and writes what each step gives.
 //!
 //! It stands on the library `xf_app`, and only makes what that runs on: a depot over the system's files, a sink over
 //! the standard output and a counter of steps. Its one promise: it passes on the user's words, and ends with the number
 //! of the status that the run gives. Where a run does not end well it tells a person so on standard error.
 #![tactic(auto)]
 
-ghost use Rattle.std.specs.Prelude.{◌≡◌, ◌<◌};
+ghost use Rattle.std.specs.Prelude.{◌≡◌, ◌<◌, map, string_bytes};
 ghost use Rattle.xf.specs.Exit.{exit_code};
+ghost use Rattle.xf_app.specs.Run.{HasCause, MeetsDue, run_account};
 
 mod report;
 #[cfg(test)]
@@ -71,7 +72,14 @@ fn words_of(rt: &HostRuntime) -> Result<Vec<String>, OutOfMemory> {
 }
 
 /// A run whose steps are counted from 0 on.
-fn run<D: Depot, S: Sink>(alloc: Global, words: &[String], depot: &mut D, sink: &mut S) -> Status {
+fn run<D: Depot, S: Sink>(alloc: Global, words: &[String], depot: &mut D, sink: &mut S) -> Status
+    ensures cause { let run = run_account (map string_bytes words.now)
+        (D.account depot.old, S.account sink.old) (D.account depot.new, S.account sink.new)
+        in HasCause run result }
+    ensures due { let run = run_account (map string_bytes words.now)
+        (D.account depot.old, S.account sink.old) (D.account depot.new, S.account sink.new)
+        in MeetsDue run result }
+{
     run_counted::<D, S, Brand>(alloc, words, depot, sink, Blank::new(1))
 }
 
@@ -86,6 +94,12 @@ fn run_counted<D: Depot, S: Sink, L: Ledger>(
     requires name { blank.name ≡ L.name }
     requires parts { blank.parts ≡ L.parts }
     requires some { 0 < blank.parts }
+    ensures cause { let run = run_account (map string_bytes words.now)
+        (D.account depot.old, S.account sink.old) (D.account depot.new, S.account sink.new)
+        in HasCause run result }
+    ensures due { let run = run_account (map string_bytes words.now)
+        (D.account depot.old, S.account sink.old) (D.account depot.new, S.account sink.new)
+        in MeetsDue run result }
 {
     let mut steps = Steps::<L>::new(blank);
     xf_app::run(alloc, words, depot, sink, &mut steps)

@@ -25,7 +25,7 @@ pub fn message(
     fetch: Option<&FetchFailure>,
     put: Option<io::Error>,
 ) -> Result<Vec<u8>, OutOfMemory>
-    // The words of the cause are the system's.
+    // The words of a fault's cause are the system's.
     ensures { let name = reported_name status board.now (option_map (λ failure. option_map string_bytes failure.now.name) fetch.entry)
         in IfOk result (λ text. (cause : List ℕ) × (text.items ≡ report_line status is_seen name cause)) }
 {
@@ -44,7 +44,7 @@ fn name_of<'a>(status: Status, board: &'a str, fetch: Option<&'a FetchFailure>) 
     }
 }
 
-/// Why the run could not go on, or nothing where the status says all.
+/// Why the run could not go on, in the system's words, or nothing where the status says all.
 fn cause_of(
     alloc: Global,
     status: Status,
@@ -52,9 +52,6 @@ fn cause_of(
     put: Option<io::Error>,
 ) -> Result<String, AllocError> {
     match (status, fetch, put) {
-        (Status::BoardRefused, _, _) => {
-            String::from_str(alloc, "board refused; standard output says why")
-        }
         (Status::WriteFault, _, Some(error)) => format!(in alloc; "{error}"),
         (_, Some(failure), _) => format!(in alloc; "{}", failure.cause),
         _ => Ok(String::new(alloc)),
@@ -76,9 +73,16 @@ fn line(
         | (Status::BoardRefused | Status::Absent | Status::TooLong, true) => Vec::new(alloc),
         (Status::Usage, true) => Vec::from_slice(alloc, BOARD_RULE)?,
         (Status::Usage, false) => Vec::from_slice(alloc, USAGE)?,
-        (Status::BoardRefused | Status::Absent | Status::TooLong, false) => {
-            named(alloc, b"xf: ", name, cause)?
+        (Status::BoardRefused, false) => {
+            named(
+                alloc,
+                b"xf: ",
+                name,
+                "board refused; standard output says why",
+            )?
         }
+        (Status::Absent, false) => named(alloc, b"xf: ", name, "no such file")?,
+        (Status::TooLong, false) => named(alloc, b"xf: ", name, cause)?,
         (Status::ReadFault, _) => named(alloc, b"xf: cannot read ", name, cause)?,
         (Status::WriteFault, _) => caused(alloc, b"xf: cannot write", cause)?,
         (Status::Memory, _) => Vec::from_slice(alloc, b"xf: out of memory\n")?,

@@ -5,19 +5,23 @@ ghost use Rattle.xf_base.specs.Bounds.{standard};
 ghost use Rattle.xf_session.specs.Start.{board_session};
 
 use std::alloc::Global;
+use thiserror::Error;
 use xf_base::{Limits, OutOfMemory};
 use xf_board::{Board, BoardRefusal, read_board};
 use xf_reply::Refusal;
 use xf_session::{CsvStart, Session};
 
 /// Why a board's file has no session.
-#[derive(Debug, Drop)]
+#[derive(Debug, Drop, Error)]
 pub enum StartRefusal {
     /// It is data, and not such as a board is made of.
+    #[error("the data is no board")]
     Data(Refusal),
     /// It is a board file, and breaks a rule.
+    #[error("the board breaks a rule")]
     Board(BoardRefusal),
     /// Memory was refused.
+    #[error("out of memory")]
     OutOfMemory,
 }
 

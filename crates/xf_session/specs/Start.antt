@@ -44,10 +44,11 @@ bare_session limits board = record {
 abbrev pub declare_dimension : Session → DimensionSpec → Session
 declare_dimension s dimension = with_dimension s dimension.name dimension.from
 
--- with a group more, as the commands `group` and `order` make it
+-- with a group in the order by a field, as the command `order` puts it
 abbrev pub in_order : Session → Name → ℕ → Session
 in_order s name field = state_after s (outcome_within s (Order name (Some field)))
 
+-- with a group more, as the commands `group` and `order` make it
 abbrev pub declare_group : Session → GroupSpec → Session
 declare_group s group = in_order (with_group s group.name group.of group.round group.reduce) group.name group.order
 
@@ -98,7 +99,7 @@ standard_board columns = record {
 abbrev pub start_of : Bounds → SheetParts → Session
 start_of limits sheet = with_rows (board_session limits (standard_board sheet.columns)) sheet.rows
 
--- why a file is no sheet; memory that was refused is no cause
+-- why a file is no sheet; memory that was refused is no cause: no definition has it, and its equation stands for nothing
 abbrev pub cause_of_sheet : SheetRefusal → Refusal
 cause_of_sheet sheet.NoHeader = refusal.NoHeader
 cause_of_sheet (sheet.UnevenRecord number) = refusal.UnevenRecord number

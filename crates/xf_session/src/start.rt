@@ -14,6 +14,7 @@ use crate::standard::standard_board;
 use std::alloc::Global;
 use std::marker::Brand;
 use std::sync::ledger::{Blank, Ledger};
+use thiserror::Error;
 use xf_base::{Limits, OutOfMemory, RowList, Steps};
 use xf_board::Board;
 use xf_engine::{AddRefusal, Cross, DimensionRefusal, GroupRefusal, WholeRefusal};
@@ -21,11 +22,13 @@ use xf_reply::Refusal;
 use xf_sheet::{Sheet, SheetRefusal, read_sheet};
 
 /// Why a CSV file has no session.
-#[derive(Debug, Drop)]
+#[derive(Debug, Drop, Error)]
 pub enum CsvStart {
     /// The file is no board of its own: it has no header, an uneven record, or too many records or entries.
+    #[error("the file is no board")]
     Refused(Refusal),
     /// Memory was refused.
+    #[error("out of memory")]
     OutOfMemory,
 }
 

@@ -1,9 +1,8 @@
 //! What a session has of the board that it begins on.
 use std::alloc::Global;
-use std::process::Abort;
 use std::test::Fail;
 use xf_base::{Limits, OutOfMemory};
-use xf_board::{BoardRefusal, read_board};
+use xf_board::{Board, BoardRefusal, read_board};
 use xf_session::Session;
 
 /// Two dimensions, two groups and two wholes.
@@ -36,28 +35,28 @@ fn names_of(alloc: Global, session: &Session) -> Result<Vec<u8>, OutOfMemory> {
     Ok(out)
 }
 
-/// The session of the board, or None where it is refused or not within the limits.
-fn session_of(alloc: Global) -> Result<Option<Session>, OutOfMemory> {
+/// The names of the session of a board; none where the board is not within the limits.
+fn names_on(alloc: Global, board: Board) -> Result<Vec<u8>, OutOfMemory> {
     let limits = Limits::standard();
-    match read_board(alloc, BOARD) {
-        Ok(board) if board.within(&limits) => Ok(Some(Session::new(alloc, board, limits)?)),
-        Ok(_) => Ok(None),
-        Err(BoardRefusal::OutOfMemory) => Err(OutOfMemory),
-        Err(_) => Ok(None),
+    if !board.within(&limits) {
+        return Ok(Vec::new(alloc));
     }
+    let session = Session::new(alloc, board, limits)?;
+    names_of(alloc, &session)
 }
 
-fn see(rt: &impl Abort, alloc: Global) -> Result<(), Fail> {
-    let session = session_of(alloc)?;
-    assert!(rt; session.is_some());
-    if let Some(session) = &session {
-        let names = names_of(alloc, session)?;
-        assert_eq!(rt; str::from_utf8(names.as_slice())?, NAMES);
+/// The names of the session of `BOARD`; none where it is refused.
+fn names(alloc: Global) -> Result<Vec<u8>, OutOfMemory> {
+    match read_board(alloc, BOARD) {
+        Ok(board) => names_on(alloc, board),
+        Err(BoardRefusal::OutOfMemory) => Err(OutOfMemory),
+        Err(_) => Ok(Vec::new(alloc)),
     }
-    Ok(())
 }
 
 #[test]
 fn begins_on_a_board(rt: HostRuntime) -> Result<(), Fail> {
-    see(&rt, rt.alloc())
+    let names = names(rt.alloc())?;
+    assert_eq!(rt; str::from_utf8(names.as_slice())?, NAMES);
+    Ok(())
 }

@@ -60,36 +60,74 @@ fn put_wholes(out: &mut Vec<u8>, session: &Session) -> Result<(), OutOfMemory> {
     Ok(())
 }
 
+/// Appends what is written for a line, and counts it where it is a step.
+fn put_line<L: Ledger>(
+    out: &mut Vec<u8>,
+    number: &mut u64,
+    session: &mut Session,
+    depot: &mut MemoryDepot,
+    line: &[u8],
+    steps: &mut Steps<L>,
+) -> Result<(), Fail> {
+    let reply = session.apply(line, depot, steps)?;
+    if !matches!(reply, Reply::Skipped) {
+        *number = number.saturating_add(1);
+    }
+    put_step(out, *number, &reply)?;
+    Ok(())
+}
+
+/// Appends what is written for lines in turn, and then the wholes.
+fn put_lines<L: Ledger>(
+    out: &mut Vec<u8>,
+    session: &mut Session,
+    depot: &mut MemoryDepot,
+    lines: &[u8],
+    steps: &mut Steps<L>,
+) -> Result<(), Fail> {
+    let mut number: u64 = 0;
+    for line in lines.split(|byte| *byte == b'\n') {
+        put_line(out, &mut number, session, depot, line, steps)?;
+    }
+    put_wholes(out, session)?;
+    Ok(())
+}
+
+/// Appends what is written for the lines of a session, with files that it may load.
+fn put_session<L: Ledger>(
+    out: &mut Vec<u8>,
+    alloc: Global,
+    session: &mut Session,
+    lines: &[u8],
+    steps: &mut Steps<L>,
+) -> Result<(), Fail> {
+    let mut depot = depot_of(alloc)?;
+    put_lines(out, session, &mut depot, lines, steps)
+}
+
+/// The session of a board within low limits.
+fn start(alloc: Global, board: &[u8]) -> Result<Session, CsvStart> {
+    let limits = low_limits();
+    if limits.dimensions < 32 || limits.groups < 33 {
+        return Err(CsvStart::OutOfMemory);
+    }
+    Session::from_csv(alloc, board, limits)
+}
+
 /// What is written for the lines of a session on a board, without the views behind the accepted ones, and the wholes after
 /// the last line; for a board that is refused, the words of its cause.
 fn written<L: Ledger>(
-    rt: &impl Abort,
     alloc: Global,
     board: &[u8],
     lines: &[u8],
     steps: &mut Steps<L>,
 ) -> Result<Vec<u8>, Fail> {
-    let limits = low_limits();
-    assert!(rt; limits.dimensions >= 32 && limits.groups >= 33);
     let mut out = Vec::new(alloc);
-    let mut session = match Session::from_csv(alloc, board, limits) {
-        Ok(session) => session,
-        Err(CsvStart::Refused(cause)) => {
-            put_refusal(&mut out, &cause)?;
-            return Ok(out);
-        }
+    match start(alloc, board) {
+        Ok(mut session) => put_session(&mut out, alloc, &mut session, lines, steps)?,
+        Err(CsvStart::Refused(cause)) => put_refusal(&mut out, &cause)?,
         Err(CsvStart::OutOfMemory) => return Err(OutOfMemory.into()),
-    };
-    let mut depot = depot_of(alloc)?;
-    let mut number: u64 = 0;
-    for line in lines.split(|byte| *byte == b'\n') {
-        let reply = session.apply(line, &mut depot, steps)?;
-        if !matches!(reply, Reply::Skipped) {
-            number = number.saturating_add(1);
-        }
-        put_step(&mut out, number, &reply)?;
     }
-    put_wholes(&mut out, &session)?;
     Ok(out)
 }
 
@@ -111,7 +149,7 @@ fn see_counted<L: Ledger>(
 {
     let mut steps = Steps::<L>::new(blank);
     for (name, board, lines, want) in cases {
-        let found = written(rt, alloc, board, lines, &mut steps)?;
+        let found = written(alloc, board, lines, &mut steps)?;
         let found = str::from_utf8(found.as_slice())?;
         assert_eq!(rt; found, *want, "{name}");
     }

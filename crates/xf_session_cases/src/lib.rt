@@ -1,6 +1,7 @@
-//! What no clause of the session says: lines in turn within low limits and what is written for each, by hand from the rules.
+//! What no clause of the session says: lines in turn within low limits and what is written for each, by hand from the rules,
+//! and what a session has of its board.
 //!
-//! It stands on the session, replies and the outside, and has nothing but tests, which cost a crate that it is proved once
+//! It stands on boards, the session, replies and the outside, and has nothing but tests, which cost a crate that it is proved once
 //! more. Its one promise: each session of the tables gives exactly the text beside it.
 #![tactic(auto)]
 
