@@ -4,15 +4,17 @@
 usage: bench/run.py PROGRAM [RECORDS ..]
        bench/run.py --verbs PROGRAM [RECORDS ..]
        bench/run.py --flights PROGRAM [RECORDS ..]
-       bench/run.py --make FILE RECORDS numbers|mixed
+       bench/run.py --make FILE RECORDS numbers|mixed|flights
 
-For each number of records (10,000, 100,000 and 1,000,000 where none is given) it writes two files into a temporary
-folder: four columns of whole numbers, and twelve columns of all kinds with the same four among them. It runs PROGRAM on
-each with sessions of 0, 1 and 20 range filters, three times, and prints a table: the shortest wall time, the greatest
-peak memory, and the bytes written. With --verbs it runs a session of each verb instead, on four columns of whole numbers of
-which one stays as a dimension and a group, so that the dashboard behind each answer is short, and sessions of long lines and
-of many. With --flights it loads so many flights, made by the rule of examples/flights, into the board there, whose nine
-dimensions are over dates, numbers, texts, tags and pairs, and moves 0, 1 and 20 brushes on them. With --make it only writes
+For each number of records (10,000, 100,000 and 1,000,000 where none is given) it writes three files into a temporary
+folder: four columns of whole numbers; twelve columns of all kinds with the same four among them; and flights by the rule of
+examples/flights. The first two are boards by themselves, and PROGRAM runs on each with sessions of 0, 1 and 20 range filters.
+The flights are loaded into the board of examples/flights, whose nine dimensions are over dates, numbers, texts, tags and pairs,
+by sessions that move 0, 1 and 20 brushes after that. Each run is made three times, and the table that it prints has the
+shortest wall time, the greatest peak memory, and the bytes written. With --flights it does so for the flights alone.
+
+With --verbs it runs a session of each verb instead, on four columns of whole numbers of which one stays as a dimension and a
+group, so that the dashboard behind each answer is short, and sessions of long lines and of many. With --make it only writes
 one file. It needs Python 3.8 on Linux and nothing else.
 """
 
@@ -77,82 +79,8 @@ def write_mixed(path, records):
             board.write(",".join(numbers + others_of(draws)) + "\n")
 
 
-FAMILIES = {"numbers": write_board, "mixed": write_mixed}
-
-
-def write_session(path, filters):
-    """The columns take turns; each range holds half of its column's values, from a drawn low end on."""
-    draws = Draws(filters)
-    with open(path, "w", encoding="ascii") as session:
-        for number in range(filters):
-            name, values = COLUMNS[number % len(COLUMNS)]
-            low = draws.draw(values // 2)
-            session.write(f"filter {name} range {low} {low + values // 2}\n")
-
-
-# What stands before each session of a verb: of the four columns the one of 10 values stays.
-ALONE = "dispose dimension thousand\ndispose dimension many\ndispose dimension unique\n"
-
-# A name, and the lines of a session; MORE stands for a file of as many records, and RECORDS for their number.
-VERBS = [
-    ("nothing", ""),
-    ("one dimension left", ALONE),
-    ("filter", ALONE + "filter ten range 2 7\n"),
-    ("filter by a predicate", ALONE + "filter ten func or modulo 3 1 not oneof exact 4 range 6 8 end\n"),
-    ("toggle", ALONE + "toggle ten exact 3\n"),
-    ("clearall", ALONE + "clearall\n"),
-    ("remove passing", ALONE + "filter ten range 2 7\nremove passing\n"),
-    ("remove where", ALONE + "remove where ten exact 3\n"),
-    ("dimension and group", ALONE + "dimension d column unique\ngroup g of d floor 100000000000 count\n"),
-    ("group of sums and counts", ALONE + "group g of ten same sumcount many\n"),
-    ("group of spreads", ALONE + "group g of ten same spread many\n"),
-    ("whole of spreads", ALONE + "whole w spread unique\n"),
-    ("order and grouptop", ALONE + "order ten 0\ngrouptop ten 5\n"),
-    ("top", ALONE + "top ten 10\n"),
-    ("bottom, all records", ALONE + "bottom ten RECORDS\n"),
-    ("records", ALONE + "records\n"),
-    ("groups", ALONE + "groups ten\n"),
-    ("value", ALONE + "value ten 3\n"),
-    ("add, behind a removal", ALONE + "remove where ten exact 3\nadd 1 2 3 4\n"),
-    ("load, half as many", ALONE + "remove where ten range 0 6\nload MORE\n"),
-]
-
-# Sessions on a board without records, which tell the cost of lines alone.
-LINES = [
-    ("1,000 notes of 65,535 bytes", ("note " + "word " * 13_106 + "\n") * 1000),
-    ("1,000,000 comments of 100 bytes", ("# " + "x" * 98 + "\n") * 1_000_000),
-]
-
-
-def measure_lines(program, folder, records, name, lines):
-    """The session of a verb. A step more has the dashboard's cost too."""
-    session = os.path.join(folder, "session.txt")
-    output = os.path.join(folder, "output.txt")
-    more = os.path.join(folder, "more.csv")
-    with open(session, "w", encoding="ascii") as text:
-        text.write(lines.replace("MORE", more).replace("RECORDS", str(records)))
-    runs = [measure(program, [os.path.join(folder, "board.csv"), session], output) for _ in range(RUNS)]
-    seconds = min(run[0] for run in runs)
-    peak = max(run[1] for run in runs)
-    return f"| {name} | {records:,} | {seconds:.3f} | {peak / 1024:.1f} | {os.path.getsize(output):,} |"
-
-
-def measure_verbs(program, sizes):
-    print("| session | records | wall time (s) | peak memory (MiB) | bytes written |")
-    print("|---|---:|---:|---:|---:|")
-    for records in sizes:
-        with tempfile.TemporaryDirectory() as folder:
-            write_board(os.path.join(folder, "board.csv"), records)
-            write_board(os.path.join(folder, "more.csv"), records // 2)
-            for name, lines in VERBS:
-                print(measure_lines(program, folder, records, name, lines), flush=True)
-    with tempfile.TemporaryDirectory() as folder:
-        write_board(os.path.join(folder, "board.csv"), 0)
-        for name, lines in LINES:
-            print(measure_lines(program, folder, 0, name, lines), flush=True)
-
-
 EXAMPLES = os.path.join(os.path.dirname(os.path.dirname(os.path.abspath(__file__))), "examples")
+FLIGHTS_BOARD = os.path.join(EXAMPLES, "flights", "board.json")
 
 # Brushes as an analyst moves them, on each dimension of the flights.
 BRUSHES = [
@@ -193,21 +121,86 @@ def write_flights(path, records):
             data.write(",".join(str(value) for value in flight) + "\n")
 
 
-def measure_flights(program, sizes):
-    board = os.path.join(EXAMPLES, "flights", "board.json")
-    print("| flights | brushes | wall time (s) | peak memory (MiB) | bytes written |")
-    print("|---:|---:|---:|---:|---:|")
+def write_brushes(path, data, brushes):
+    """The flights are loaded, and the first so many brushes are moved."""
+    with open(path, "w", encoding="ascii") as session:
+        session.write(f"load {data}\n")
+        session.writelines(brush + "\n" for brush in BRUSHES[:brushes])
+
+
+# Each file's name, and what writes it. The first two are boards by themselves.
+FAMILIES = {"numbers": write_board, "mixed": write_mixed, "flights": write_flights}
+
+
+def write_session(path, filters):
+    """The columns take turns; each range holds half of its column's values, from a drawn low end on."""
+    draws = Draws(filters)
+    with open(path, "w", encoding="ascii") as session:
+        for number in range(filters):
+            name, values = COLUMNS[number % len(COLUMNS)]
+            low = draws.draw(values // 2)
+            session.write(f"filter {name} range {low} {low + values // 2}\n")
+
+
+# What stands before each session of a verb: of the four columns the one of 10 values stays.
+ALONE = "dispose dimension thousand\ndispose dimension many\ndispose dimension unique\n"
+
+# A name, and the lines of a session; MORE stands for a file of as many records, and RECORDS for their number.
+VERBS = [
+    ("nothing", ""),
+    ("one dimension left", ALONE),
+    ("filter", ALONE + "filter ten range 2 7\n"),
+    ("filter by a predicate", ALONE + "filter ten func or modulo 3 1 not oneof exact 4 range 6 8 end\n"),
+    ("toggle", ALONE + "toggle ten exact 3\n"),
+    ("clearall", ALONE + "clearall\n"),
+    ("remove passing", ALONE + "filter ten range 2 7\nremove passing\n"),
+    ("remove where", ALONE + "remove where ten exact 3\n"),
+    ("dimension and group", ALONE + "dimension d column unique\ngroup g of d floor 100000000000 count\n"),
+    ("group of sums and counts", ALONE + "group g of ten same sumcount many\n"),
+    ("group of spreads", ALONE + "group g of ten same spread many\n"),
+    ("whole of spreads", ALONE + "whole w spread unique\n"),
+    ("order and grouptop", ALONE + "order ten 0\ngrouptop ten 5\n"),
+    ("top", ALONE + "top ten 10\n"),
+    ("bottom, all records", ALONE + "bottom ten RECORDS\n"),
+    ("records", ALONE + "records\n"),
+    ("groups", ALONE + "groups ten\n"),
+    ("value", ALONE + "value ten 3\n"),
+    ("add, behind a removal", ALONE + "remove where ten exact 3\nadd 1 2 3 4\n"),
+    ("load, half as many", ALONE + "remove where ten range 0 6\nload MORE\n"),
+]
+
+# Sessions on a board without records, which tell the cost of lines alone: a name, a line, and how often it stands there. They
+# are long, and are written line by line, since what this process holds counts as the peak of a program that needs less.
+LINES = [
+    ("1,000 notes of 65,535 bytes", "note " + "word " * 13_106 + "\n", 1000),
+    ("1,000,000 comments of 100 bytes", "# " + "x" * 98 + "\n", 1_000_000),
+]
+
+
+def measure_lines(program, folder, records, name, lines, times=1):
+    """The session of a verb, or of its lines many times. A step more has the dashboard's cost too."""
+    session = os.path.join(folder, "session.txt")
+    more = os.path.join(folder, "more.csv")
+    lines = lines.replace("MORE", more).replace("RECORDS", str(records))
+    with open(session, "w", encoding="ascii") as text:
+        for _ in range(times):
+            text.write(lines)
+    return f"| {name} | {records:,} | {figures_of(program, folder, os.path.join(folder, 'board.csv'), session)} |"
+
+
+def measure_verbs(program, sizes):
+    print("| session | records | wall time (s) | peak memory (MiB) | bytes written |")
+    print("|---|---:|---:|---:|---:|")
     for records in sizes:
         with tempfile.TemporaryDirectory() as folder:
-            data, session, output = (os.path.join(folder, name) for name in ("flights.csv", "session.txt", "output.txt"))
-            write_flights(data, records)
-            for brushes in FILTERS:
-                with open(session, "w", encoding="ascii") as text:
-                    text.write("\n".join([f"load {data}", *BRUSHES[:brushes]]) + "\n")
-                runs = [measure(program, [board, session], output) for _ in range(RUNS)]
-                seconds = min(run[0] for run in runs)
-                peak = max(run[1] for run in runs)
-                print(f"| {records:,} | {brushes} | {seconds:.3f} | {peak / 1024:.1f} | {os.path.getsize(output):,} |", flush=True)
+            write_board(os.path.join(folder, "board.csv"), records)
+            write_board(os.path.join(folder, "more.csv"), records // 2)
+            for name, lines in VERBS:
+                print(measure_lines(program, folder, records, name, lines), flush=True)
+    with tempfile.TemporaryDirectory() as folder:
+        write_board(os.path.join(folder, "board.csv"), 0)
+        for name, line, times in LINES:
+            print(measure_lines(program, folder, 0, name, line, times), flush=True)
 
 
 def measure(program, words, output):
@@ -223,15 +216,35 @@ def measure(program, words, output):
     return seconds, usage.ru_maxrss
 
 
-def measure_row(program, folder, family, records, filters):
-    session = os.path.join(folder, "session.txt")
+def figures_of(program, folder, board, session):
+    """The last three cells of a row: the shortest time, the greatest peak, and the bytes written."""
     output = os.path.join(folder, "output.txt")
-    write_session(session, filters)
-    runs = [measure(program, [os.path.join(folder, "board.csv"), session], output) for _ in range(RUNS)]
+    runs = [measure(program, [board, session], output) for _ in range(RUNS)]
     seconds = min(run[0] for run in runs)
     peak = max(run[1] for run in runs)
-    written = os.path.getsize(output)
-    return f"| {family} | {records:,} | {filters} | {seconds:.3f} | {peak / 1024:.1f} | {written:,} |"
+    return f"{seconds:.3f} | {peak / 1024:.1f} | {os.path.getsize(output):,}"
+
+
+def measure_row(program, folder, family, records, filters):
+    data = board = os.path.join(folder, f"{family}.csv")
+    session = os.path.join(folder, "session.txt")
+    if family == "flights":
+        board = FLIGHTS_BOARD
+        write_brushes(session, data, filters)
+    else:
+        write_session(session, filters)
+    return f"| {family} | {records:,} | {filters} | {figures_of(program, folder, board, session)} |"
+
+
+def measure_families(program, families, sizes):
+    print("| file | records | filters | wall time (s) | peak memory (MiB) | bytes written |")
+    print("|---|---:|---:|---:|---:|---:|")
+    for family in families:
+        for records in sizes:
+            with tempfile.TemporaryDirectory() as folder:
+                FAMILIES[family](os.path.join(folder, f"{family}.csv"), records)
+                for filters in FILTERS:
+                    print(measure_row(program, folder, family, records, filters), flush=True)
 
 
 def main():
@@ -242,21 +255,13 @@ def main():
     if len(words) > 1 and words[0] == "--verbs":
         measure_verbs(os.path.abspath(words[1]), [int(word) for word in words[2:]] or [1_000_000])
         return
+    families = FAMILIES
     if len(words) > 1 and words[0] == "--flights":
-        measure_flights(os.path.abspath(words[1]), [int(word) for word in words[2:]] or RECORDS)
-        return
+        families = ["flights"]
+        del words[0]
     if not words or words[0].startswith("-"):
         sys.exit(__doc__)
-    program = os.path.abspath(words[0])
-    sizes = [int(word) for word in words[1:]] or RECORDS
-    print("| columns | records | filters | wall time (s) | peak memory (MiB) | bytes written |")
-    print("|---|---:|---:|---:|---:|---:|")
-    for family, write in FAMILIES.items():
-        for records in sizes:
-            with tempfile.TemporaryDirectory() as folder:
-                write(os.path.join(folder, "board.csv"), records)
-                for filters in FILTERS:
-                    print(measure_row(program, folder, family, records, filters), flush=True)
+    measure_families(os.path.abspath(words[0]), families, [int(word) for word in words[1:]] or RECORDS)
 
 
 if __name__ == "__main__":
