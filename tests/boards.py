@@ -612,7 +612,7 @@ TEXTS = [
     (MEMORY, b"\xff" + b"," * 100_001),
     ("syntax", b"\xff" + b"," * 100_000),
     (SOUND, SMALL + ',"title":"' + ",[{" * 50_000 + '"}'),
-    (SOUND, SMALL + ',"title":"' + '\\",' * 100_001 + '"}'),
+    (SOUND, SMALL + ',"title":"\\"' + "," * 100_001 + '"}'),
     ("syntax", '"' + "," * 100_001),
     (MEMORY, '{"title":"\\\\"' + "," * 100_000),
     ("syntax", '{"title":"\\\\"' + "," * 99_999),
