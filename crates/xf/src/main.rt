@@ -5,9 +5,10 @@
 //! of the status that the run gives. Where a run does not end well it tells a person so on standard error.
 #![tactic(auto)]
 
-ghost use Rattle.std.specs.Prelude.{◌≡◌, ◌<◌, map, string_bytes};
+ghost use Rattle.std.specs.Prelude.{◌≡◌, ◌<◌, [], IfOk, None, map, slice_get, string_bytes, unwrap_or};
 ghost use Rattle.xf.specs.Exit.{exit_code};
-ghost use Rattle.xf_app.specs.Run.{HasCause, MeetsDue, run_account};
+ghost use Rattle.xf_app.specs.Run.{CountsFaults, CountsMisses, HasCause, Headline, MeetsDue, run_account};
+ghost use Rattle.xf_app.specs.Words.{names_of};
 
 mod report;
 #[cfg(test)]
@@ -47,7 +48,9 @@ fn main(rt: HostRuntime) -> ExitCode {
 }
 
 /// The board's name, or an empty text where there are no words.
-fn board_of(words: &Result<Vec<String>, OutOfMemory>) -> &str {
+fn board_of(words: &Result<Vec<String>, OutOfMemory>) -> &str
+    ensures { IfOk words.now (λ words. result.now ≡ unwrap_or (slice_get (map string_bytes words.items) 0) []) }
+{
     match words {
         Ok(words) => words.first().map_or("", String::as_str),
         Err(OutOfMemory) => "",
@@ -76,9 +79,19 @@ fn run<D: Depot, S: Sink>(alloc: Global, words: &[String], depot: &mut D, sink: 
     ensures cause { let run = run_account (map string_bytes words.now)
         (D.account depot.old, S.account sink.old) (D.account depot.new, S.account sink.new)
         in HasCause run result }
+    ensures faults { let run = run_account (map string_bytes words.now)
+        (D.account depot.old, S.account sink.old) (D.account depot.new, S.account sink.new)
+        in CountsFaults run result }
+    ensures misses { let run = run_account (map string_bytes words.now)
+        (D.account depot.old, S.account sink.old) (D.account depot.new, S.account sink.new)
+        in CountsMisses run result }
     ensures due { let run = run_account (map string_bytes words.now)
         (D.account depot.old, S.account sink.old) (D.account depot.new, S.account sink.new)
         in MeetsDue run result }
+    ensures headline { let run = run_account (map string_bytes words.now)
+        (D.account depot.old, S.account sink.old) (D.account depot.new, S.account sink.new)
+        in Headline run result }
+    ensures untouched { names_of (map string_bytes words.now) ≡ None → depot.new ≡ depot.old }
 {
     run_counted::<D, S, Brand>(alloc, words, depot, sink, Blank::new(1))
 }
@@ -97,9 +110,19 @@ fn run_counted<D: Depot, S: Sink, L: Ledger>(
     ensures cause { let run = run_account (map string_bytes words.now)
         (D.account depot.old, S.account sink.old) (D.account depot.new, S.account sink.new)
         in HasCause run result }
+    ensures faults { let run = run_account (map string_bytes words.now)
+        (D.account depot.old, S.account sink.old) (D.account depot.new, S.account sink.new)
+        in CountsFaults run result }
+    ensures misses { let run = run_account (map string_bytes words.now)
+        (D.account depot.old, S.account sink.old) (D.account depot.new, S.account sink.new)
+        in CountsMisses run result }
     ensures due { let run = run_account (map string_bytes words.now)
         (D.account depot.old, S.account sink.old) (D.account depot.new, S.account sink.new)
         in MeetsDue run result }
+    ensures headline { let run = run_account (map string_bytes words.now)
+        (D.account depot.old, S.account sink.old) (D.account depot.new, S.account sink.new)
+        in Headline run result }
+    ensures untouched { names_of (map string_bytes words.now) ≡ None → depot.new ≡ depot.old }
 {
     let mut steps = Steps::<L>::new(blank);
     xf_app::run(alloc, words, depot, sink, &mut steps)

@@ -24,7 +24,7 @@ use Rattle.xf_members.specs.Count.{openers}
 use Rattle.xf_board.specs.Print.{accessor_value, board_text, board_value, body_value, chart_value, column_members, column_value, dimension_value, elements_of, group_value, object_of, part_value, reducer_value, rounding_value, whole_value}
 use Rattle.xf_board.specs.Walk.{without_mark}
 use Rattle.xf_board.specs.declared.read.TheConstants.{MOST_OPENERS}
-use Rattle.xf_members.specs.declared.count.Place.TheVariants.{InText, Outside}
+use Rattle.xf_members.specs.declared.count.TextState.TheVariants.{InText, Outside}
 use Rattle.xf_board.specs.declared.parts.ChartBody.{ChartBody}
 use Rattle.xf_board.specs.declared.parts.ChartBody.TheVariants as body
 use Rattle.xf_board.specs.declared.parts.ChartSpec.{ChartSpec}

@@ -37,3 +37,9 @@ most_table_columns = 64
 
 abbrev pub most_colours : ℕ
 most_colours = 64
+
+-- ---- the whole board
+
+-- a text with more commas and beginnings of arrays and objects, outside of its texts, is not read
+abbrev pub most_openers : ℕ
+most_openers = 100000

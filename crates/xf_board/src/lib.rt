@@ -26,9 +26,9 @@ mod whole;
 pub use board::Board;
 pub use colour::usual_colours;
 pub use parts::{
-    COLOURS, ChartBody, ChartList, ChartSpec, DimensionList, DimensionSpec, GREATEST_CAP,
-    GREATEST_SIDE, GREATEST_TABLE, GroupList, GroupSpec, LEAST_HEIGHT, LEAST_WIDTH, TABLE_COLUMNS,
-    USUAL_HEIGHT, USUAL_TABLE, USUAL_WIDTH, WholeList, WholeSpec,
+    ChartBody, ChartList, ChartSpec, DimensionList, DimensionSpec, GREATEST_CAP, GREATEST_SIDE,
+    GREATEST_TABLE, GroupList, GroupSpec, LEAST_HEIGHT, LEAST_WIDTH, MOST_COLOURS,
+    MOST_TABLE_COLUMNS, USUAL_HEIGHT, USUAL_TABLE, USUAL_WIDTH, WholeList, WholeSpec,
 };
 pub use print::print_board;
 pub use read::{MOST_OPENERS, read_board};

@@ -28,11 +28,11 @@ pub const GREATEST_TABLE: u64 = 10_000;
 /// The number of records of a table that says none.
 pub const USUAL_TABLE: u64 = 25;
 
-/// Columns of a table.
-pub const TABLE_COLUMNS: u64 = 64;
+/// The most columns of a table.
+pub const MOST_TABLE_COLUMNS: u64 = 64;
 
-/// Colours of a board.
-pub const COLOURS: u64 = 64;
+/// The most colours of a board.
+pub const MOST_COLOURS: u64 = 64;
 
 /// A dimension: its name, and where its keys come from.
 #[derive(Debug, Drop)]

@@ -6,7 +6,7 @@ ghost use Rattle.xf_base.specs.Schema.{IsColumn};
 ghost use Rattle.xf_board.specs.Print.{HasTextBlank, board_text, board_value, board_with};
 ghost use Rattle.xf_members.specs.Count.{openers};
 ghost use Rattle.xf_board.specs.Walk.{board_in, without_mark};
-ghost use Rattle.xf_members.specs.declared.count.Place.TheVariants.{Outside};
+ghost use Rattle.xf_members.specs.declared.count.TextState.TheVariants.{Outside};
 
 use crate::board::Board;
 use crate::printed::elements_of;

@@ -1,14 +1,14 @@
 //! Reading a board.
-ghost use Rattle.std.specs.Prelude.{◌≡◌, ◌<◌, ◌≤◌, length, Err, Some, None, Ok, IfOk, IfErr, ◌⊎◌, [], ◌+◌, List};
+ghost use Rattle.std.specs.Prelude.{◌≡◌, ◌<◌, ◌≤◌, nat_lt, length, Err, Some, None, Ok, IfOk, IfErr, ◌⊎◌, [], ◌+◌, List};
 ghost use Rattle.std.specs.List.{AllByRecursion};
 ghost use Rattle.serde_json.specs.View.{view};
 ghost use Rattle.xf_board.specs.Board.{AllAfter, IsNewColumn, IsNewDimension, IsNewGroup, IsNewWhole, IsChart, IsColour};
-ghost use Rattle.xf_members.specs.Count.{most_openers, openers};
-ghost use Rattle.xf_board.specs.Ranges.{most_colours};
+ghost use Rattle.xf_members.specs.Count.{openers};
+ghost use Rattle.xf_board.specs.Ranges.{most_colours, most_openers};
 ghost use Rattle.xf_members.specs.Reading.{Answers};
 ghost use Rattle.xf_board.specs.Walk.{board_in, board_of, charts_at, colours_at, columns_at, dimensions_at, given_colours, groups_at, json_of, version_at, wholes_at, without_mark};
 ghost use Rattle.xf_members.specs.declared.board_refusal.BoardRefusal.TheVariants as refusal;
-ghost use Rattle.xf_members.specs.declared.count.Place.TheVariants.{Outside};
+ghost use Rattle.xf_members.specs.declared.count.TextState.TheVariants.{Outside};
 ghost use Rattle.xf_board.specs.declared.parts.GroupSpec.{GroupSpec};
 
 use crate::board::Board;
@@ -18,7 +18,8 @@ use crate::column::{ColumnRule, schema_of};
 use crate::dimension::DimensionRule;
 use crate::group::GroupRule;
 use crate::parts::{
-    COLOURS, ChartList, DimensionList, DimensionSpec, GroupList, GroupSpec, WholeList, WholeSpec,
+    ChartList, DimensionList, DimensionSpec, GroupList, GroupSpec, MOST_COLOURS, WholeList,
+    WholeSpec,
 };
 use crate::whole::WholeRule;
 use serde_json::Value;
@@ -40,7 +41,7 @@ pub fn read_board(alloc: Global, bytes: &[u8]) -> Result<Board, BoardRefusal>
     ensures many { most_openers < openers Outside (without_mark bytes.now) → result ≡ Err refusal.OutOfMemory }
 {
     let bytes = without_mark(bytes);
-    if has_more_openers(bytes, MOST_OPENERS) {
+    if has_too_many(bytes) {
         return Err(BoardRefusal::OutOfMemory);
     }
     let value = json_of(alloc, bytes)?;
@@ -60,8 +61,16 @@ fn without_mark(bytes: &[u8]) -> &[u8]
     }
 }
 
+/// Whether a text has more values than a board is read with.
+fn has_too_many(bytes: &[u8]) -> bool
+    ensures { result ≡ nat_lt most_openers (openers Outside bytes.now) }
+{
+    has_more_openers(bytes, MOST_OPENERS)
+}
+
 /// The value of a text, or `Syntax`.
 fn json_of(alloc: Global, bytes: &[u8]) -> Result<Value, BoardRefusal>
+    requires { openers Outside bytes.now ≤ most_openers }
     ensures ok { IfOk result (λ value. json_of bytes.now ≡ Some (view value)) }
     ensures err { IfErr result (λ cause. (cause ≡ refusal.OutOfMemory) ⊎ ((cause ≡ refusal.Syntax) × (json_of bytes.now ≡ None))) }
 {
@@ -210,6 +219,6 @@ fn given_colours(alloc: Global, value: &Value) -> Result<TextList, BoardRefusal>
     ensures sound { IfOk result (λ colours. (0 < length colours) × (length colours ≤ most_colours) × AllByRecursion IsColour colours) }
 {
     let elements = filled_array_at(alloc, "", "colours", value)?;
-    few(alloc, "/colours", COLOURS, elements.len())?;
+    few(alloc, "/colours", MOST_COLOURS, elements.len())?;
     elements_of(alloc, &ColourRule, "/colours", elements)
 }

@@ -10,7 +10,7 @@ ghost use Rattle.xf_board.specs.declared.parts.GroupSpec.{GroupSpec};
 ghost use Rattle.xf_board.specs.declared.parts.WholeSpec.{WholeSpec};
 
 use crate::group::dimension_at;
-use crate::parts::{ChartBody, DimensionSpec, GREATEST_TABLE, TABLE_COLUMNS, USUAL_TABLE};
+use crate::parts::{ChartBody, DimensionSpec, GREATEST_TABLE, MOST_TABLE_COLUMNS, USUAL_TABLE};
 use serde_json::Value;
 use std::alloc::Global;
 use xf_base::{Schema, Text};
@@ -34,7 +34,12 @@ pub fn table_at(
     let _declared = dimension_at(alloc, dimensions, path, "dimension", dimension.as_str())?;
     let elements = filled_array_at(alloc, path, "columns", value)?;
     let columns_path = member(alloc, path, "columns")?;
-    few(alloc, columns_path.as_str(), TABLE_COLUMNS, elements.len())?;
+    few(
+        alloc,
+        columns_path.as_str(),
+        MOST_TABLE_COLUMNS,
+        elements.len(),
+    )?;
     let columns = elements_of(
         alloc,
         &TableColumnRule { schema },

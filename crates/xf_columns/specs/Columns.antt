@@ -60,7 +60,7 @@ accessor_of columns (accessor.Tags name) = stock.Tags (column_at columns name)
 accessor_of columns (accessor.Weekday name) = stock.Weekday (column_at columns name)
 accessor_of columns (accessor.Month name) = stock.Month (column_at columns name)
 
--- why a column does not do: it is not there, or it is not such as is taken
+-- why a column does not fit: it is not there, or it is not such as is taken
 abbrev pub column_refusal : (Option ColumnKind → Bool) → List Column → List ℕ → Option ColumnRefusal
 column_refusal takes columns name =
     if is_none (place_of columns name) then Some (NoColumn name) else if takes (kind_named columns name) then None else Some (WrongColumn name)
@@ -135,7 +135,7 @@ simple_of columns (words.SumCount name) = part.SumCount (column_at columns name)
 simple_of columns (words.SumSquares name) = part.SumSquares (column_at columns name)
 simple_of columns (words.Spread name) = part.Spread (column_at columns name)
 
--- why the column of a part does not do
+-- why the column of a part does not fit
 abbrev pub simple_refusal : List Column → SimpleWords → Option ColumnRefusal
 simple_refusal columns words.Count = None
 simple_refusal columns (words.Sum name) = column_refusal is_of_numbers columns name
@@ -143,7 +143,7 @@ simple_refusal columns (words.SumCount name) = column_refusal is_of_numbers colu
 simple_refusal columns (words.SumSquares name) = column_refusal is_of_numbers columns name
 simple_refusal columns (words.Spread name) = column_refusal is_of_numbers columns name
 
--- the reducer that words name, and why a column of it does not do, from left to right
+-- the reducer that words name, and why a column of it does not fit, from left to right
 abbrev pub reducer_of : List Column → ReducerWords → StockReducer
 reducer_of columns (reducer.One first) = stock_reducer.One (simple_of columns first)
 reducer_of columns (reducer.Both first second) = stock_reducer.Two (simple_of columns first) (simple_of columns second)

@@ -12,7 +12,7 @@ use xf_access::{StockAccessor, StockRounding};
 use xf_base::{AtomForm, ColumnKind, KeyForm, Schema, Text};
 use xf_reduce::{Simple, StockReducer};
 
-/// The accessor that words name, or why a column does not do: the columns are tried from left to right, each for its
+/// The accessor that words name, or why a column does not fit: the columns are tried from left to right, each for its
 /// name and then for its kind.
 pub fn accessor_of(schema: &Schema, words: AccessorWords) -> Result<StockAccessor, ColumnRefusal>
     ensures accessor { IfOk result (λ accessor. (accessor ≡ accessor_of schema.now words)
@@ -119,7 +119,7 @@ pub fn applies(rounding: StockRounding, form: KeyForm) -> bool
     }
 }
 
-/// The reducer that words name, or why a column does not do: the columns are tried from left to right, each for its name
+/// The reducer that words name, or why a column does not fit: the columns are tried from left to right, each for its name
 /// and then for its kind.
 pub fn reducer_of(schema: &Schema, words: ReducerWords) -> Result<StockReducer, ColumnRefusal>
     ensures reducer { IfOk result (λ reducer. (reducer ≡ reducer_of schema.now words)

@@ -97,12 +97,12 @@ abbrev pub declared : {A : Type 0} → List ℕ → List ℕ → Option A → Re
 declared path name (Some x) = Ok x
 declared path name None = Err (refusal.Name path name)
 
--- why a column that words name does not do, as a refusal of the member that names it
+-- why a column that words name does not fit, as a refusal of the member that names it
 abbrev pub refusal_of : List ℕ → ColumnRefusal → BoardRefusal
 refusal_of path (NoColumn name) = refusal.Name path name
 refusal_of path (WrongColumn name) = refusal.Field path
 
--- what words name, unless a column does not do
+-- what words name, unless a column does not fit
 abbrev pub fitting : {A : Type 0} → List ℕ → Option ColumnRefusal → A → Read A
 fitting path None x = Ok x
 fitting path (Some cause) x = Err (refusal_of path cause)

@@ -1,13 +1,16 @@
 //! How many values a JSON text has, counted without memory.
 ghost use Rattle.std.specs.Prelude.{◌≡◌, nat_lt};
-ghost use Rattle.xf_members.specs.Count.{openers, opens, place_after};
-ghost use Rattle.xf_members.specs.declared.count.Place.TheVariants.{Outside};
+ghost use Rattle.xf_members.specs.Count.{openers, opens, state_after};
+ghost use Rattle.xf_members.specs.declared.count.TextState.TheVariants.{Outside};
 
-/// Where a byte of a JSON text stands.
+/// What stands before a byte of a JSON text.
 #[derive(Clone, Copy, Debug, PartialEq, Eq)]
-pub enum Place {
+pub enum TextState {
+    /// The byte is in no text.
     Outside,
+    /// The byte is in a text, or ends it.
     InText,
+    /// The byte is in a text, behind a `\`.
     Escaped,
 }
 
@@ -15,47 +18,47 @@ pub enum Place {
 pub fn has_more_openers(bytes: &[u8], limit: u64) -> bool
     ensures { result ≡ nat_lt limit (openers Outside bytes.now) }
 {
-    let mut place = Place::Outside;
+    let mut state = TextState::Outside;
     let mut count: u64 = 0;
     for byte in bytes {
-        if opens(place, *byte) {
+        if opens(state, *byte) {
             if count >= limit {
                 return true;
             }
             count += 1;
         }
-        place = place_after(place, *byte);
+        state = state_after(state, *byte);
     }
     false
 }
 
 /// Whether a byte is a comma or begins an array or an object.
-fn opens(place: Place, byte: u8) -> bool
-    ensures { result ≡ opens place byte }
+fn opens(state: TextState, byte: u8) -> bool
+    ensures { result ≡ opens state byte }
 {
-    match place {
-        Place::Outside => byte == b',' || byte == b'[' || byte == b'{',
-        Place::InText | Place::Escaped => false,
+    match state {
+        TextState::Outside => byte == b',' || byte == b'[' || byte == b'{',
+        TextState::InText | TextState::Escaped => false,
     }
 }
 
-/// Where the byte behind another stands.
-fn place_after(place: Place, byte: u8) -> Place
-    ensures { result ≡ place_after place byte }
+/// What stands before the next byte.
+fn state_after(state: TextState, byte: u8) -> TextState
+    ensures { result ≡ state_after state byte }
 {
-    match place {
-        Place::Outside => {
+    match state {
+        TextState::Outside => {
             if byte == b'"' {
-                Place::InText
+                TextState::InText
             } else {
-                Place::Outside
+                TextState::Outside
             }
         }
-        Place::InText => match byte {
-            b'"' => Place::Outside,
-            b'\\' => Place::Escaped,
-            _ => Place::InText,
+        TextState::InText => match byte {
+            b'"' => TextState::Outside,
+            b'\\' => TextState::Escaped,
+            _ => TextState::InText,
         },
-        Place::Escaped => Place::InText,
+        TextState::Escaped => TextState::InText,
     }
 }

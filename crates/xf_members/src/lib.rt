@@ -19,17 +19,15 @@ mod words;
 
 pub use board_refusal::BoardRefusal;
 pub use colour::colour_of;
-pub use count::{Place, has_more_openers};
+pub use count::{TextState, has_more_openers};
 pub use elements::{ElementRule, elements_of};
-pub use object_sort::{
-    ChartKind, ColumnWord, ObjectSort, chart_kind_of, column_word_of, is_member,
-};
-pub use path::{element, member};
+pub use object_sort::{ChartKind, ColumnWord, ObjectSort, chart_kind_of, column_word_of};
+pub use path::member;
 pub use put_refusal::put_board_refusal;
 pub use rule::{
     absent, array_at, array_or_none, ensured, few, field_or, filled_array_at, number, number_below,
     number_or, object_at, only_members, text_at, text_of, text_or, unless_taken, wrong_column,
     wrong_element, wrong_element_name, wrong_field, wrong_name,
 };
-pub use value::{array_of, first_unknown, whole_number};
+pub use value::whole_number;
 pub use words::{accessor_rule, reducer_rule, rounding_rule};

@@ -82,7 +82,7 @@ pub fn unless_taken(alloc: Global, taken: bool, path: &str, given: &str) -> Resu
     Ok(())
 }
 
-/// Why a column does not do, at the member that names it.
+/// Why a column does not fit, at the member that names it.
 pub fn wrong_column<A: Drop>(
     alloc: Global,
     path: &str,

@@ -175,7 +175,7 @@ new-group files s name dimension naming words reducer why absent stands fits is 
     let free : is_some (named s.groups name) ≡ false = ap is_some absent in
     rw (free, there, apply) (ap (λ (held : Option Refusal). unless_refused held (with_group s name dimension (rounding_of words) (reducer_of s.cross.columns reducer)) plain) is)
 
--- its reducer does not do
+-- its reducer does not fit
 pub group-reducer-outcome : (files : Files) (s : Session) (name dimension : Name) (naming : Naming) (words : RoundingWords) (reducer : ReducerWords) (why : Refusal) → named s.groups name ≡ None
     → named s.dimensions dimension ≡ Some naming → applies (rounding_of words) naming.form ≡ true → first_cause (reducer_causes s.cross.columns reducer) ≡ Some why
     → outcome_of files s (form.Group name dimension words reducer) ≡ refused why
@@ -235,7 +235,7 @@ new-whole files s name reducer why absent is =
     let free : is_some (named s.wholes name) ≡ false = ap is_some absent in
     rw free (ap (λ (held : Option Refusal). unless_refused held (with_whole s name (reducer_of s.cross.columns reducer)) plain) is)
 
--- its reducer does not do
+-- its reducer does not fit
 pub whole-reducer-outcome : (files : Files) (s : Session) (name : Name) (reducer : ReducerWords) (why : Refusal) → named s.wholes name ≡ None → first_cause (reducer_causes s.cross.columns reducer) ≡ Some why
     → outcome_of files s (form.Whole name reducer) ≡ refused why
 whole-reducer-outcome files s name reducer why absent told =

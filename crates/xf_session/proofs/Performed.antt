@@ -7,7 +7,7 @@ use Rattle.xf_columns.specs.declared.words.RoundingWords.TheVariants as rounding
 use Rattle.xf_columns.specs.declared.words.RoundingWords.{RoundingWords}
 use Rattle.xf_model.specs.Replay.{state_after}
 use Rattle.xf_outside.specs.Account.{DepotAccount, Files}
-use Rattle.xf_outside.specs.Count.{Rose}
+use Rattle.xf_outside.specs.Count.{Rose, RoseExactly}
 use Rattle.xf_reply.specs.Step.{HasText}
 use Rattle.xf_reply.specs.declared.refusal.Refusal.{Refusal}
 use Rattle.xf_reply.specs.declared.reply.Reply.{Reply}
@@ -23,7 +23,7 @@ use Rattle.xf_script.specs.declared.line_refusal.LineRefusal.TheVariants as line
 use Rattle.xf_session.proofs.ChangeTexts.{IsChange, change_text}
 use Rattle.xf_session.specs.Asked.{IsLoadReply, IsLoaded, Performs, TellsAbsent, TellsTooLong, done_of}
 use Rattle.xf_session.specs.Command.{Tells, TellsFor, command, outcome_of, outcome_read, unless_refused}
-use Rattle.xf_session.specs.Does.{Does, outcome_within}
+use Rattle.xf_session.specs.Does.{Does, no_files, outcome_within}
 use Rattle.xf_session.specs.Does as does
 use Rattle.xf_session.specs.Outcome.{Answer, reply_of}
 use Rattle.xf_session.specs.State.{Name, Session}
@@ -96,6 +96,12 @@ pub line_does : {E : Type 0} (told : Option Files) (line : List ℕ) (given : Co
 line_does told line given old new result read did files tells =
     subst (λ (read : Read (Option CommandForm)). Does (outcome_read files old read) old new result) (sym read) (did files (tells_for told files line given read tells))
 
+-- and so it does over some files
+pub line_somewhere : {E : Type 0} (line : List ℕ) (given : CommandForm) (old new : Session) (result : Result Reply E) → form_of_line line ≡ Ok (Some given)
+    → ((files : Files) × Does (outcome_of files old given) old new result) → (files : Files) × Does (command files old line) old new result
+line_somewhere line given old new result read did =
+    (did.0, subst (λ (read : Read (Option CommandForm)). Does (outcome_read did.0 old read) old new result) (sym read) did.1)
+
 -- why a line says no command
 pub read_refused : (cause : LineRefusal) (read : Read (Option CommandForm)) → Answers {A = Option CommandForm} (Err cause) read → (cause ≡ line.OutOfMemory → ⊥) → read ≡ Err cause
 read_refused (line.TooLong length) read told never = told
@@ -153,6 +159,10 @@ pub performed_done : (told : Option Files) (given : CommandForm) (old new : Sess
 performed_done told given old new answer did files tells =
     subst (λ outcome. (answer ≡ reply_of outcome) × (new ≡ state_after old outcome)) (within_any files old given did.3) (did.0, did.1)
 
+pub performed_somewhere : (given : CommandForm) (old new : Session) (answer : Reply) → Performs given old new (Ok (performed.Done answer))
+    → (files : Files) × ((answer ≡ reply_of (outcome_of files old given)) × (new ≡ state_after old (outcome_of files old given)))
+performed_somewhere given old new answer did = (no_files, (did.0, did.1))
+
 -- or the file was loaded
 pub performed_load : {E : Type 0} (told : Option Files) (given : CommandForm) (file : Name) (old mid new : Session) (result : Result Reply E) → Performs given old mid (Ok (performed.Asks file))
     → ((files : Files) → told ≡ Some files → Does (outcome_of files mid (form.Load file)) mid new result)
@@ -163,9 +173,14 @@ performed_load told given file old mid new result asks loaded files tells =
       | inr never ↦ absurd (never file asks.0)
     ]
 
+pub loaded_somewhere : {E : Type 0} (given : CommandForm) (file : Name) (old mid new : Session) (result : Result Reply E) → Performs given old mid (Ok (performed.Asks file))
+    → ((files : Files) × Does (outcome_of files mid (form.Load file)) mid new result) → (files : Files) × Does (outcome_of files old given) old new result
+loaded_somewhere given file old mid new result asks loaded =
+    (loaded.0, rw asks.0 (subst (λ (s : Session). Does (outcome_of loaded.0 s (form.Load file)) s new result) asks.1 loaded.1))
+
 -- what a `load` tells and counts, whatever its file
 pub loaded_as : {E : Type 0} (old mid : Session) (before after : DepotAccount) (result : Result Reply E) → mid ≡ old → IfOk result IsLoadReply
-    → IfOk result (λ answer. TellsAbsent answer → Rose before.misses after.misses 1)
+    → IfOk result (λ answer. TellsAbsent answer → RoseExactly before.misses after.misses 1)
     → IfOk result (λ answer. TellsTooLong mid.cross.limits.file_bytes answer → Rose before.taken after.taken (mid.cross.limits.file_bytes + 1))
     → IfOk result (IsLoaded old.cross.limits.file_bytes before after)
 loaded_as old mid before after (Ok answer) same answered absent long =

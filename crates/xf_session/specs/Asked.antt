@@ -42,10 +42,10 @@ IsLoadCause cause = (15 ≤ refusal_number cause) × (refusal_number cause ≤ 2
 abbrev pub IsLoadReply : Reply → Type 0
 IsLoadReply answer = ((count : ℕ) × (answer ≡ reply.Changed (Added count))) ⊎ ((cause : Refusal) × (answer ≡ reply.Refused cause) × IsLoadCause cause)
 
--- a `load` was answered: a file that is not there was missed, and one that is too long was taken in above the limit
+-- a `load` was answered: a file that is not there was missed once, and one that is too long was taken in above the limit
 pub record IsLoaded (limit : ℕ) (before after : DepotAccount) (answer : Reply) : Type 0 where
   pub answered : IsLoadReply answer
-  pub absent : TellsAbsent answer → Rose before.misses after.misses 1
+  pub absent : TellsAbsent answer → RoseExactly before.misses after.misses 1
   pub too_long : TellsTooLong limit answer → Rose before.taken after.taken (limit + 1)
 
 -- no call changes a file; a fault is counted once, and none where none is told; no file is missed but where that is told

@@ -1,4 +1,4 @@
--- Why the columns that words name do not do, as causes of a refusal.
+-- Why the columns that words name do not fit, as causes of a refusal.
 use Rattle.std.specs.Prelude.{List, [], ◌∷◌, Option, option_map}
 use Rattle.xf_base.specs.declared.column.Column.{Column}
 use Rattle.xf_columns.specs.Columns.{accessor_refusal, reducer_refusal}

@@ -62,8 +62,9 @@ impl Session {
         ensures command { (files : Files) → Tells (D.account depot.old).files files line.now → Does (command files self.old line.now) self.old self.new result }
         ensures err { OnErr result (self.new ≡ self.old) }
 
-        // Whatever the depot tells: how a `load` may be answered and what it counts, and that any other line leaves the depot
-        // as it was.
+        // Whatever the depot tells: the line does what its command does over some files, how a `load` may be answered and what
+        // it counts, and any other line leaves the depot as it was.
+        ensures some_files { (files : Files) × Does (command files self.old line.now) self.old self.new result }
         ensures loads { (file : Name) → Loads line.now file → IfOk result (IsLoaded self.old.cross.limits.file_bytes (D.account depot.old) (D.account depot.new)) }
         ensures untouched { ((file : Name) → Loads line.now file → ⊥) → depot.new ≡ depot.old }
         ensures counted { IsCounted result (D.account depot.old) (D.account depot.new) }
@@ -85,6 +86,7 @@ impl Session {
     ) -> Result<Reply, SessionFault>
         requires { IsCommand form }
         ensures command { (files : Files) → TellsFor (D.account depot.old).files files form → Does (outcome_of files self.old form) self.old self.new result }
+        ensures some_files { (files : Files) × Does (outcome_of files self.old form) self.old self.new result }
         ensures err { OnErr result (self.new ≡ self.old) }
         ensures loads { (file : Name) → form ≡ Form.Load file → IfOk result (IsLoaded self.old.cross.limits.file_bytes (D.account depot.old) (D.account depot.new)) }
         ensures untouched { ((file : Name) → form ≡ Form.Load file → ⊥) → depot.new ≡ depot.old }

@@ -12,7 +12,7 @@ use xf_columns::{AccessorWords, ColumnRefusal, ReducerWords, accessor_of, reduce
 use xf_reduce::StockReducer;
 use xf_reply::Refusal;
 
-/// The accessor that words name, or why a column does not do.
+/// The accessor that words name, or why a column does not fit.
 pub fn find_accessor(schema: &Schema, words: AccessorWords) -> Result<StockAccessor, Refusal>
     ensures accessor { IfOk result (λ accessor. (accessor ≡ accessor_of schema.now words)
         × (first_cause (accessor_causes schema.now words) ≡ None) × (fits_columns accessor schema.now ≡ true)) }
@@ -24,7 +24,7 @@ pub fn find_accessor(schema: &Schema, words: AccessorWords) -> Result<StockAcces
     }
 }
 
-/// The reducer that words name, or why a column does not do.
+/// The reducer that words name, or why a column does not fit.
 pub fn find_reducer(schema: &Schema, words: ReducerWords) -> Result<StockReducer, Refusal>
     ensures reducer { IfOk result (λ reducer. (reducer ≡ reducer_of schema.now words)
         × (first_cause (reducer_causes schema.now words) ≡ None) × (stock_fits reducer schema.now ≡ true)) }
@@ -36,7 +36,7 @@ pub fn find_reducer(schema: &Schema, words: ReducerWords) -> Result<StockReducer
     }
 }
 
-/// Why a column does not do, as a line is refused for it.
+/// Why a column does not fit, as a line is refused for it.
 fn refused_column(cause: ColumnRefusal) -> Refusal
     ensures { result ≡ column_cause cause }
 {

@@ -4,7 +4,7 @@ ghost use Rattle.std.specs.List.{AllByRecursion};
 ghost use Rattle.xf_base.specs.Schema.{IsCellOf, IsColumn, IsRowOf};
 ghost use Rattle.xf_load.specs.Load.{cell_at, rows_of};
 ghost use Rattle.xf_outside.specs.Account.{Files};
-ghost use Rattle.xf_outside.specs.Count.{Rose};
+ghost use Rattle.xf_outside.specs.Count.{Rose, RoseExactly};
 ghost use Rattle.xf_reply.specs.Step.{HasText};
 ghost use Rattle.xf_script.specs.declared.command.CommandForm.TheVariants.{Add, Load};
 ghost use Rattle.xf_session.specs.Arrivals.{read_outcome, rows_outcome};
@@ -31,11 +31,12 @@ impl Session {
         steps: &mut Steps<L>,
     ) -> Result<Reply, SessionFault>
         ensures command { (files : Files) → (D.account depot.old).files ≡ Some files → Does (outcome_of files self.old (Load file)) self.old self.new result }
+        ensures some_files { (files : Files) × Does (outcome_of files self.old (Load file)) self.old self.new result }
         ensures err { OnErr result (self.new ≡ self.old) }
         ensures loads { IfOk result IsLoadReply }
         ensures files { (D.account depot.new).files ≡ (D.account depot.old).files }
         ensures faults { FaultsAfter result (D.account depot.old).faults (D.account depot.new).faults }
-        ensures absent { IfOk result (λ reply. TellsAbsent reply → Rose (D.account depot.old).misses (D.account depot.new).misses 1) }
+        ensures absent { IfOk result (λ reply. TellsAbsent reply → RoseExactly (D.account depot.old).misses (D.account depot.new).misses 1) }
         ensures found { IfOk result (λ reply. (TellsAbsent reply → ⊥) → (D.account depot.new).misses ≡ (D.account depot.old).misses) }
         ensures too_long { IfOk result (λ reply. TellsTooLong self.old.cross.limits.file_bytes reply
             → Rose (D.account depot.old).taken (D.account depot.new).taken (self.old.cross.limits.file_bytes + 1)) }
