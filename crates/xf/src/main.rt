@@ -7,7 +7,8 @@
 
 ghost use Rattle.std.specs.Prelude.{◌≡◌, ◌<◌, [], IfOk, None, map, slice_get, string_bytes, unwrap_or};
 ghost use Rattle.xf.specs.Exit.{exit_code};
-ghost use Rattle.xf_app.specs.Run.{CountsFaults, CountsMisses, HasCause, Headline, MeetsDue, run_account};
+ghost use Rattle.xf_app.specs.Ends.{IsRun};
+ghost use Rattle.xf_app.specs.Run.{run_account};
 ghost use Rattle.xf_app.specs.Words.{names_of};
 
 mod report;
@@ -76,21 +77,9 @@ fn words_of(rt: &HostRuntime) -> Result<Vec<String>, OutOfMemory> {
 
 /// A run whose steps are counted from 0 on.
 fn run<D: Depot, S: Sink>(alloc: Global, words: &[String], depot: &mut D, sink: &mut S) -> Status
-    ensures cause { let run = run_account (map string_bytes words.now)
+    ensures meets { let run = run_account (map string_bytes words.now)
         (D.account depot.old, S.account sink.old) (D.account depot.new, S.account sink.new)
-        in HasCause run result }
-    ensures faults { let run = run_account (map string_bytes words.now)
-        (D.account depot.old, S.account sink.old) (D.account depot.new, S.account sink.new)
-        in CountsFaults run result }
-    ensures misses { let run = run_account (map string_bytes words.now)
-        (D.account depot.old, S.account sink.old) (D.account depot.new, S.account sink.new)
-        in CountsMisses run result }
-    ensures due { let run = run_account (map string_bytes words.now)
-        (D.account depot.old, S.account sink.old) (D.account depot.new, S.account sink.new)
-        in MeetsDue run result }
-    ensures headline { let run = run_account (map string_bytes words.now)
-        (D.account depot.old, S.account sink.old) (D.account depot.new, S.account sink.new)
-        in Headline run result }
+        in IsRun run result }
     ensures untouched { names_of (map string_bytes words.now) ≡ None → depot.new ≡ depot.old }
 {
     run_counted::<D, S, Brand>(alloc, words, depot, sink, Blank::new(1))
@@ -107,21 +96,9 @@ fn run_counted<D: Depot, S: Sink, L: Ledger>(
     requires name { blank.name ≡ L.name }
     requires parts { blank.parts ≡ L.parts }
     requires some { 0 < blank.parts }
-    ensures cause { let run = run_account (map string_bytes words.now)
+    ensures meets { let run = run_account (map string_bytes words.now)
         (D.account depot.old, S.account sink.old) (D.account depot.new, S.account sink.new)
-        in HasCause run result }
-    ensures faults { let run = run_account (map string_bytes words.now)
-        (D.account depot.old, S.account sink.old) (D.account depot.new, S.account sink.new)
-        in CountsFaults run result }
-    ensures misses { let run = run_account (map string_bytes words.now)
-        (D.account depot.old, S.account sink.old) (D.account depot.new, S.account sink.new)
-        in CountsMisses run result }
-    ensures due { let run = run_account (map string_bytes words.now)
-        (D.account depot.old, S.account sink.old) (D.account depot.new, S.account sink.new)
-        in MeetsDue run result }
-    ensures headline { let run = run_account (map string_bytes words.now)
-        (D.account depot.old, S.account sink.old) (D.account depot.new, S.account sink.new)
-        in Headline run result }
+        in IsRun run result }
     ensures untouched { names_of (map string_bytes words.now) ≡ None → depot.new ≡ depot.old }
 {
     let mut steps = Steps::<L>::new(blank);

@@ -8,3 +8,8 @@ pub fn see_text(rt: &impl Abort, name: &str, found: &[u8], want: &str) -> Result
     assert_eq!(rt; found, want, "{name}");
     Ok(())
 }
+
+/// Sees that what a case wants is so, and names the case where it is not.
+pub fn see(rt: &impl Abort, name: &str, is_right: bool) {
+    assert!(rt; is_right, "{name}");
+}

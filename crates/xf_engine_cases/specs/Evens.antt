@@ -1,4 +1,4 @@
--- A reducer that is not of the stock, with the proofs of its laws: only a test has it.
+-- A reducer that is not of the stock, with the proofs of its laws.
 use Rattle.std.proofs.Common.{◌≡◌, ℕ, ◌+◌, ◌-◌, ◌≤◌, ℤ, pos, if◌then◌else◌, List, [], ◌∷◌, length, fold, Option, Some, None, slice_get, arith, lit≤}
 use Rattle.std.proofs.lemmas.Int.{ints}
 use Rattle.std.specs.Int.{int_rem_euclid}

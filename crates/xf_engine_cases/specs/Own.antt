@@ -1,4 +1,4 @@
--- An accessor and a rounding that are not of the stock, with the proofs of their laws: only a test has them.
+-- An accessor and a rounding that are not of the stock, with the proofs of their laws.
 use Rattle.std.proofs.Common.{◌≡◌, ℕ, Bool, true, false, ℤ, pos, negsuc, ◌≤ℤ◌, min, List, [], ◌∷◌, length, Option, Some, None, IsSomeAnd, slice_get, refl, arith}
 use Rattle.std.specs.Int.{int_div_euclid}
 use Rattle.std.specs.Ordering.{is_le}

@@ -1,27 +1,19 @@
-//! A crossfilter over an accessor, a rounding and a reducer of one's own.
-ghost use Rattle.std.specs.Prelude.{◌≡◌, ◌<◌};
+//! An accessor, a rounding, a predicate and a reducer of one's own: what types prove so that a crossfilter takes them.
+ghost use Rattle.std.specs.Prelude.{◌≡◌};
 
-use crate::engine::{RECORDS, add_group, add_rows, see_numbers};
-use crate::named::{a_schema, filter_of};
-use crate::see::see;
-use crate::told::{Told, WHOLE};
 use std::alloc::Global;
-use std::marker::Brand;
-use std::process::Abort;
-use std::sync::ledger::{Blank, Ledger};
-use std::test::Fail;
+use std::sync::ledger::Ledger;
 use xf_access::{Accessor, Rounding};
 use xf_base::{
     Cell, Column, ColumnKind, Key, KeyKind, KeyList, Limits, OutOfMemory, Row, Schema, Steps,
 };
-use xf_engine::{Cross, DimensionId, GroupId, WholeId};
-use xf_filter::StockPredicate;
+use xf_filter::Predicate;
 use xf_reduce::Reducer;
 
 /// How many bytes the text of a column has, up to 4,096.
 #[derive(Clone, Copy)]
-pub(crate) struct TextLength {
-    pub(crate) column: usize,
+pub struct TextLength {
+    pub column: usize,
 }
 
 impl Accessor for TextLength {
@@ -69,7 +61,7 @@ impl Accessor for TextLength {
 
 /// Half of a number, rounded down.
 #[derive(Clone, Copy)]
-pub(crate) struct Halves;
+pub struct Halves;
 
 impl Rounding for Halves {
     ghost use Rattle.xf_engine_cases.specs.Own.{halved, halved-keeps_order};
@@ -86,9 +78,37 @@ impl Rounding for Halves {
     }
 }
 
+/// Yes for even numbers.
+#[derive(Clone, Copy)]
+pub struct Even;
+
+impl Predicate for Even {
+    ghost use Rattle.std.specs.Prelude.{[], pos};
+    ghost use Rattle.xf_filter.specs.Stock.{is_remainder};
+
+    ghost says_to = { λ own. is_remainder (pos 2) (pos 0) };
+
+    ghost keys_in = { λ own. [] };
+
+    fn says(&self, key: &Key) -> bool {
+        match key {
+            Key::Num(number) => number.rem_euclid(2) == 0,
+            Key::Text(_) | Key::Pair(_, _) => false,
+        }
+    }
+
+    fn misfit(&self, _kind: &KeyKind) -> Option<KeyKind> {
+        None
+    }
+
+    fn copy(&self, _alloc: Global) -> Result<Even, OutOfMemory> {
+        Ok(Even)
+    }
+}
+
 /// How many rows have an even number in the second column: one field.
 #[derive(Clone, Copy)]
-pub(crate) struct Evens;
+pub struct Evens;
 
 impl Evens {
     ghost use Rattle.xf_engine_cases.specs.Evens.{even_second};
@@ -173,75 +193,4 @@ impl Reducer for Evens {
     fn rank(&self, value: &u64, _field: u8) -> i128 {
         i128::from(*value)
     }
-}
-
-type OwnCross = Cross<TextLength, Halves, StockPredicate, Evens>;
-
-const LENGTH: DimensionId = DimensionId(0);
-
-/// Adds the lengths of texts as the dimension 0, a group of their halves, and a whole.
-fn add_lengths<L: Ledger>(
-    rt: &impl Abort,
-    cross: &mut OwnCross,
-    steps: &mut Steps<L>,
-) -> Result<(GroupId, WholeId), Fail> {
-    let length = TextLength { column: 0 };
-    assert!(rt; length.fits(cross.schema()));
-    let dimension = cross.add_dimension(length, steps)?;
-    let group = add_group(rt, cross, dimension, Halves, Evens, steps)?;
-    assert!(rt; Evens.fits(cross.schema()));
-    let whole = cross.add_whole(Evens, steps)?;
-    Ok((group, whole))
-}
-
-/// Sets a range of lengths, and sees the record that it leaves.
-fn see_range<L: Ledger>(
-    rt: &impl Abort,
-    alloc: Global,
-    cross: &mut OwnCross,
-    steps: &mut Steps<L>,
-) -> Result<(), Fail> {
-    let range = filter_of(alloc, &WHOLE, "range 2 3")?;
-    see(
-        rt,
-        "two moved",
-        cross.set_filter(LENGTH, range, steps) == Ok(2),
-    );
-    let found = cross.bottom(LENGTH, 1, 1, steps)?;
-    see(rt, "the second", found.as_slice() == [2].as_slice());
-    Ok(())
-}
-
-/// The halves 0 and 1, and how many numbers of each are even.
-static HALVES: [(Told, i128); 2] = [(Told::Num(0), 1), (Told::Num(1), 0)];
-
-fn see_own<L: Ledger>(
-    rt: &impl Abort,
-    alloc: Global,
-    cross: &mut OwnCross,
-    steps: &mut Steps<L>,
-) -> Result<(), Fail> {
-    add_rows(alloc, cross, &RECORDS, steps)?;
-    let (group, whole) = add_lengths(rt, cross, steps)?;
-    see(rt, "one even number", *cross.whole(whole)? == 1);
-    see_range(rt, alloc, cross, steps)?;
-    see(rt, "no even number", *cross.whole(whole)? == 0);
-    see_numbers(rt, alloc, cross, group, &HALVES, steps)
-}
-
-/// The lengths 2, 1, 2 and 1 of rows with the numbers -5, 0, 7 and 7, through a crossfilter: the halves of the lengths, each
-/// with how many of its numbers are even.
-fn see_lengths<L: Ledger>(rt: &impl Abort, alloc: Global, blank: Blank) -> Result<(), Fail>
-    requires name { blank.name ≡ L.name }
-    requires parts { blank.parts ≡ L.parts }
-    requires some { 0 < blank.parts }
-{
-    let mut steps = Steps::<L>::new(blank);
-    let mut cross = Cross::new(alloc, a_schema(alloc)?, Limits::standard());
-    see_own(rt, alloc, &mut cross, &mut steps)
-}
-
-#[test]
-fn concrete(rt: HostRuntime) -> Result<(), Fail> {
-    see_lengths::<Brand>(&rt, rt.alloc(), Blank::new(1))
 }

@@ -1,24 +1,20 @@
-//! A reducer of one's own.
-ghost use Rattle.std.specs.Prelude.{◌≡◌, ◌<◌};
+//! A reducer of one's own: what a type proves so that groups take it.
+ghost use Rattle.std.specs.Prelude.{◌≡◌};
 
-use crate::folds::{a_schema, see_fields};
 use std::alloc::Global;
-use std::marker::Brand;
-use std::process::Abort;
-use std::sync::ledger::{Blank, Ledger};
-use std::test::Fail;
+use std::sync::ledger::Ledger;
 use xf_base::{Cell, ColumnKind, OutOfMemory, Row, Schema, Steps};
 use xf_reduce::Reducer;
 
 /// How many rows have an even number in the first column: one field.
 #[derive(Clone, Copy)]
-pub(crate) struct Evens;
+pub struct Evens;
 
 impl Evens {
     ghost use Rattle.xf_group_cases.specs.Own.{even_first};
 
     /// 1 for a row that counts, and 0 for another.
-    pub(crate) fn count_of(row: &Row) -> u64
+    pub fn count_of(row: &Row) -> u64
         ensures { result ≡ even_first row.now }
     {
         match row.at(0) {
@@ -97,35 +93,4 @@ impl Reducer for Evens {
     fn rank(&self, value: &u64, _field: u8) -> i128 {
         i128::from(*value)
     }
-}
-
-/// The numbers of rows, and how many of them are even.
-static COUNTS: [(&[(i64, i64)], i128); 5] = [
-    (&[], 0),
-    (&[(7, 0), (-5, 2)], 0),
-    (&[(7, 0), (-6, 0), (0, 1)], 2),
-    (&[(2, 1), (3, 2)], 1),
-    (
-        &[(1_000_000_000_000_000, 0), (-1_000_000_000_000_000, 0)],
-        2,
-    ),
-];
-
-fn see_evens<L: Ledger>(rt: &impl Abort, alloc: Global, blank: Blank) -> Result<(), Fail>
-    requires name { blank.name ≡ L.name }
-    requires parts { blank.parts ≡ L.parts }
-    requires some { 0 < blank.parts }
-{
-    let mut steps = Steps::<L>::new(blank);
-    let schema = a_schema(alloc)?;
-    for (numbers, count) in &COUNTS {
-        let copy = Evens.copy(alloc)?;
-        see_fields(rt, alloc, &schema, &copy, numbers, &[*count], &mut steps)?;
-    }
-    Ok(())
-}
-
-#[test]
-fn own_reducer(rt: HostRuntime) -> Result<(), Fail> {
-    see_evens::<Brand>(&rt, rt.alloc(), Blank::new(1))
 }

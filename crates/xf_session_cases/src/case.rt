@@ -39,7 +39,7 @@ fn low_limits() -> Limits {
     }
 }
 
-fn depot_of(alloc: Global) -> Result<MemoryDepot, Fail> {
+pub(crate) fn depot_of(alloc: Global) -> Result<MemoryDepot, Fail> {
     let mut held = Vec::new(alloc);
     for (name, bytes) in &FILES {
         held.push((Text::of(alloc, name)?, bytes.to_vec(alloc)?))?;
@@ -106,7 +106,7 @@ fn put_session<L: Ledger>(
 }
 
 /// The session of a board within low limits.
-fn start(alloc: Global, board: &[u8]) -> Result<Session, CsvStart> {
+pub(crate) fn start(alloc: Global, board: &[u8]) -> Result<Session, CsvStart> {
     let limits = low_limits();
     if limits.dimensions < 32 || limits.groups < 33 {
         return Err(CsvStart::OutOfMemory);

@@ -3,6 +3,7 @@ ghost use Rattle.std.specs.Prelude.{◌≡◌, ◌<◌};
 
 use crate::engine::{CrossBy, FLIGHTS, StockCross, add_counted, add_rows, empty_cross, flights};
 use crate::named::filter_of;
+use crate::own::Even;
 use crate::see::see;
 use crate::told::{TEXT, WHOLE};
 use std::alloc::Global;
@@ -11,41 +12,13 @@ use std::process::Abort;
 use std::sync::ledger::{Blank, Ledger};
 use std::test::Fail;
 use xf_access::{StockAccessor, StockRounding};
-use xf_base::{Key, KeyForm, KeyKind, OutOfMemory, Steps};
+use xf_base::{KeyForm, Steps};
 use xf_engine::{DimensionId, ListRefusal, NoDimension};
 use xf_filter::{Filter, Predicate};
 
 const DELAY: DimensionId = DimensionId(0);
 
 const CARRIER: DimensionId = DimensionId(1);
-
-/// Yes for even numbers.
-#[derive(Clone, Copy)]
-struct Even;
-
-impl Predicate for Even {
-    ghost use Rattle.std.specs.Prelude.{[], pos};
-    ghost use Rattle.xf_filter.specs.Stock.{is_remainder};
-
-    ghost says_to = { λ own. is_remainder (pos 2) (pos 0) };
-
-    ghost keys_in = { λ own. [] };
-
-    fn says(&self, key: &Key) -> bool {
-        match key {
-            Key::Num(number) => number.rem_euclid(2) == 0,
-            Key::Text(_) | Key::Pair(_, _) => false,
-        }
-    }
-
-    fn misfit(&self, _kind: &KeyKind) -> Option<KeyKind> {
-        None
-    }
-
-    fn copy(&self, _alloc: Global) -> Result<Even, OutOfMemory> {
-        Ok(Even)
-    }
-}
 
 /// Sets a filter, and sees how many records it moves and how many pass it.
 fn see_moved<P: Predicate, L: Ledger>(

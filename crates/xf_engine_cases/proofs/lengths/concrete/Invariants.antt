@@ -1,4 +1,4 @@
-use Rattle.xf_engine_cases.proofs.own.concrete.Given as goal
+use Rattle.xf_engine_cases.proofs.lengths.concrete.Given as goal
 
 -- the example counts its steps in the ledger of its blank
 abbrev pub ghosts-see_lengths : goal.ghosts-see_lengths
