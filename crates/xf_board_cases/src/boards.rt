@@ -1,4 +1,8 @@
 //! What is read and printed.
+use crate::worked::{
+    again, another_version, column_without_name, no_object, one_chart, taken_name, unknown_member,
+    words_of_name,
+};
 use std::alloc::Global;
 use std::process::Abort;
 use std::test::Fail;
@@ -30,9 +34,9 @@ fn counts_of(board: &Board) -> (usize, usize, usize, usize, usize, usize, bool) 
     )
 }
 
-/// What is printed for the board of a text, or why there is none, in words.
-fn again(alloc: Global, text: &[u8]) -> Result<Vec<u8>, OutOfMemory> {
-    match read_board(alloc, text) {
+/// What is printed for a board that was read, or why there is none, in words.
+fn told(alloc: Global, read: Result<Board, BoardRefusal>) -> Result<Vec<u8>, OutOfMemory> {
+    match read {
         Ok(board) => print_board(alloc, &board),
         Err(BoardRefusal::OutOfMemory) => Err(OutOfMemory),
         Err(refusal) => words_of(alloc, &refusal),
@@ -53,9 +57,9 @@ fn has_parts(alloc: Global) -> bool {
     }
 }
 
-/// Whether what is printed for a text is this.
-fn is_printed(alloc: Global, text: &[u8], want: &[u8]) -> bool {
-    match again(alloc, text) {
+/// Whether this is told of what was read.
+fn is_told(alloc: Global, read: Result<Board, BoardRefusal>, want: &[u8]) -> bool {
+    match told(alloc, read) {
         Ok(found) => found.as_slice() == want,
         Err(OutOfMemory) => false,
     }
@@ -65,11 +69,55 @@ fn is_printed(alloc: Global, text: &[u8], want: &[u8]) -> bool {
 fn reads_and_prints(rt: HostRuntime) -> Result<(), Fail> {
     let alloc = rt.alloc();
     assert!(rt; has_parts(alloc), "parts");
-    assert!(rt; is_printed(alloc, WRITTEN, PRINTED), "printed");
-    assert!(rt; is_printed(alloc, PRINTED, PRINTED), "printed again");
     assert!(rt;
-        is_printed(alloc, br#"{"version":2}"#, b"version 2"),
-        "refused"
+        is_told(alloc, read_board(alloc, WRITTEN), PRINTED),
+        "printed"
     );
+    assert!(rt;
+        is_told(alloc, read_board(alloc, PRINTED), PRINTED),
+        "printed again"
+    );
+    Ok(())
+}
+
+/// The board of one chart, with all members.
+static ONE_CHART: &[u8] =
+    br##"{"charts":[{"height":200,"kind":"count","title":"All","width":300}],"colours":["#e8eef4","#b9cbdd","#7d9cbc","#40688f","#16324f"],"columns":[],"dimensions":[],"groups":[],"title":"","version":1,"wholes":[]}"##;
+
+/// The board of one chart, printed and read again.
+fn one_chart_again(alloc: Global) -> Result<Board, BoardRefusal> {
+    let board = one_chart(alloc)?;
+    again(alloc, &board)
+}
+
+/// Whether a name that is not declared is told in these words.
+fn has_words(alloc: Global) -> Result<bool, OutOfMemory> {
+    let mut words = Vec::new(alloc);
+    words_of_name(alloc, &mut words)?;
+    Ok(words.as_slice() == br#"name /groups/0/of "a b""#.as_slice())
+}
+
+#[test]
+fn worked(rt: HostRuntime) -> Result<(), Fail> {
+    let alloc = rt.alloc();
+    assert!(rt; is_told(alloc, no_object(alloc), b"syntax"), "no object");
+    assert!(rt;
+        is_told(alloc, another_version(alloc), b"version 2"),
+        "version"
+    );
+    assert!(rt;
+        is_told(alloc, unknown_member(alloc), b"unknown /x"),
+        "member"
+    );
+    assert!(rt;
+        is_told(alloc, column_without_name(alloc), b"field /columns/1/name"),
+        "column"
+    );
+    assert!(rt;
+        is_told(alloc, taken_name(alloc), b"name /dimensions/1/name d"),
+        "name"
+    );
+    assert!(rt; is_told(alloc, one_chart_again(alloc), ONE_CHART), "chart");
+    assert!(rt; has_words(alloc)?, "words");
     Ok(())
 }

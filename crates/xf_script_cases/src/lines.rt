@@ -1,5 +1,6 @@
 //! Lines that are read, as the one line that is written for each, and lines that are refused.
 use crate::see::see;
+use crate::worked::{again, comment, greatest_three, no_text, no_verb, wanting_count};
 use std::alloc::Global;
 use std::process::Abort;
 use std::test::Fail;
@@ -166,8 +167,12 @@ fn commands_are_written(rt: HostRuntime) -> Result<(), Fail> {
     Ok(())
 }
 
-fn see_refused(rt: &impl Abort, alloc: Global, line: &[u8], want: LineRefusal) -> Result<(), Fail> {
-    match read_command(alloc, line) {
+fn see_refused(
+    rt: &impl Abort,
+    read: Result<Option<Command>, LineRefusal>,
+    want: LineRefusal,
+) -> Result<(), Fail> {
+    match read {
         Err(refusal) => assert_eq!(rt; refusal, want),
         Ok(_) => assert!(rt; false),
     }
@@ -177,7 +182,23 @@ fn see_refused(rt: &impl Abort, alloc: Global, line: &[u8], want: LineRefusal) -
 #[test]
 fn lines_are_refused(rt: HostRuntime) -> Result<(), Fail> {
     for (line, want) in &REFUSED {
-        see_refused(&rt, rt.alloc(), line, *want)?;
+        see_refused(&rt, read_command(rt.alloc(), line), *want)?;
     }
     Ok(())
+}
+
+#[test]
+fn worked(rt: HostRuntime) -> Result<(), Fail> {
+    let alloc = rt.alloc();
+    see_refused(&rt, no_verb(alloc), LineRefusal::Verb)?;
+    see_refused(&rt, wanting_count(alloc), LineRefusal::Word { number: 3 })?;
+    see_refused(&rt, no_text(alloc), LineRefusal::NotText { place: 5 })?;
+    see(&rt, written(alloc, &comment(alloc)?)?.as_slice(), "")?;
+    match greatest_three(alloc)? {
+        Some(command) => {
+            let again = again(alloc, &command)?;
+            see(&rt, written(alloc, &again)?.as_slice(), "top \"a b\" 3")
+        }
+        None => Ok(assert!(rt; false)),
+    }
 }

@@ -1,5 +1,6 @@
 //! What is written for replies, refusals and the lines of answers.
 use crate::see::see;
+use crate::worked::{hundredths, refused_step};
 use std::alloc::Global;
 use std::test::Fail;
 use xf_base::{
@@ -262,4 +263,12 @@ fn records(rt: HostRuntime) -> Result<(), Fail> {
         out.as_slice(),
         "  record 4 -7 2.5 2001-01-14 \"\" a+b\n",
     )
+}
+
+#[test]
+fn worked(rt: HostRuntime) -> Result<(), Fail> {
+    let mut out = Vec::new(rt.alloc());
+    refused_step(&mut out)?;
+    hundredths(&mut out)?;
+    see(&rt, out.as_slice(), "step 7 refused 4 bad word 3\n -0.05")
 }
